@@ -1,0 +1,11 @@
+pub mod Solver
+pub mod Integers
+pub mod Coefficients
+pub mod Quartics
+pub mod Surds
+pub mod GaussianLaws
+pub mod TenfoldLaws
+pub mod Powers
+pub mod Equality
+pub mod Totals
+pub mod Sizes

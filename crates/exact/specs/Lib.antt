@@ -1,0 +1,10 @@
+pub mod Cyclotomic
+pub mod Signs
+pub mod Quads
+pub mod Models
+pub mod Groups
+pub mod Residues
+pub mod Sweeps
+pub mod JobNumbers
+pub mod Sizes
+pub mod Theorems

@@ -1,0 +1,4 @@
+pub mod Plane
+pub mod Faults
+pub mod Answers
+pub mod Tied
