@@ -45,12 +45,21 @@ pub some-fits : (a : ℤ) → Between (products 8) a → SFits w64 a
 some-fits a h = omega (arith, ints)
 
 -- ---- products
--- what `times` was asked for, by its arguments' values
-pub times-is : (a b : ℤ) {t : ℤ} → t ≡ back a *ℤ back b → Between plane-bound a → Between plane-bound b → t ≡ a *ℤ b
-times-is a b e p q = e ∙ ap₂ _*ℤ_ (toZ-ofZ w64 a (near-fits a p)) (toZ-ofZ w64 b (near-fits b q))
+-- what `times` answers, by its arguments' values
+pub times-is : (a b : ℤ) {t : ℤ} → (Between plane-bound (back a) → Between plane-bound (back b) → t ≡ back a *ℤ back b) → Between plane-bound a → Between plane-bound b → t ≡ a *ℤ b
+times-is a b e p q =
+    let ea = toZ-ofZ w64 a (near-fits a p) in
+    let eb = toZ-ofZ w64 b (near-fits b q) in
+    e (subst (Between plane-bound) (sym ea) p) (subst (Between plane-bound) (sym eb) q) ∙ ap₂ _*ℤ_ ea eb
+
+pub times-small : (a b : ℤ) {t : ℤ} → (Between plane-bound (back a) → Between plane-bound (back b) → Between (products 1) t) → Between plane-bound a → Between plane-bound b → Between (products 1) t
+times-small a b e p q = e (subst (Between plane-bound) (sym (toZ-ofZ w64 a (near-fits a p))) p) (subst (Between plane-bound) (sym (toZ-ofZ w64 b (near-fits b q))) q)
+
+back-product : (a b : ℤ) → Between plane-bound a → Between plane-bound b → back a *ℤ back b ≡ a *ℤ b
+back-product a b p q = ap₂ _*ℤ_ (toZ-ofZ w64 a (near-fits a p)) (toZ-ofZ w64 b (near-fits b q))
 
 pub cross-is : (a b c d : ℤ) {t : ℤ} → t ≡ back a *ℤ back d +ℤ negℤ (back b *ℤ back c) → Between plane-bound a → Between plane-bound b → Between plane-bound c → Between plane-bound d → t ≡ a *ℤ d +ℤ negℤ (b *ℤ c)
-cross-is a b c d e p q r s = e ∙ ap₂ (λ x y. x +ℤ negℤ y) (times-is a d refl p s) (times-is b c refl q r)
+cross-is a b c d e p q r s = e ∙ ap₂ (λ x y. x +ℤ negℤ y) (back-product a d p s) (back-product b c q r)
 
 -- ---- wrapping sums and opposites, as the machine leaves them
 abbrev pub added : ℤ → ℤ → ℤ

@@ -3,6 +3,8 @@ ghost use mathlib.Core.Path.{_≡_};
 ghost use lib.Dec.{T};
 ghost use lib.IntN.{ℤ, pos, negℤ, _*ℤ_};
 ghost use lib.ListN.{getD};
+ghost use mir.Syntax.{w64};
+ghost use Rattle.std.specs.shelf.Signed.{wrapped};
 ghost use Rattle.exact.specs.Signs.{sign};
 ghost use Rattle.exact.specs.Sizes.{Between};
 ghost use Rattle.rings.specs.Plane.{plane-bound, height-bound, products};
@@ -49,11 +51,11 @@ pub fn listed_or_zero(list: &[i64], k: usize) -> i64
     if k < list.len() { list[k] } else { 0 }
 }
 
-// The product of two coefficients of positions.
-pub(crate) fn times(a: i64, b: i64) -> i64
-    requires { ⌜ Between plane-bound a ⌝ ∗ ⌜ Between plane-bound b ⌝ }
-    ensures is { λ r. ⌜ r ≡ a *ℤ b ⌝ }
-    ensures small { λ r. ⌜ Between (products 1) r ⌝ }
+// The product of two coefficients, modulo 2^64 and read as signed. Of coefficients of positions it is the product itself.
+pub fn times(a: i64, b: i64) -> i64
+    ensures is { λ r. ⌜ r ≡ wrapped w64 (a *ℤ b) ⌝ }
+    ensures exact { λ r. ⌜ (Between plane-bound a → Between plane-bound b → r ≡ a *ℤ b) ⌝ }
+    ensures small { λ r. ⌜ (Between plane-bound a → Between plane-bound b → Between (products 1) r) ⌝ }
 {
-    a * b
+    a.wrapping_mul(b)
 }

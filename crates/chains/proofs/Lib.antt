@@ -1,0 +1,16 @@
+pub mod Lists
+pub mod Multiples
+pub mod Tallies
+pub mod Turns
+pub mod Edges
+pub mod Sweeping
+pub mod Lookups
+pub mod Inflating
+pub mod Images
+pub mod Placing
+pub mod Balancing
+pub mod Occurring
+pub mod Nodes
+pub mod Conserving
+pub mod Following
+pub mod Examples

@@ -1,0 +1,10 @@
+pub mod Counts
+pub mod Books
+pub mod Edges
+pub mod Inflation
+pub mod Placements
+pub mod Accepted
+pub mod Addresses
+pub mod Frontiers
+pub mod Theorems
+pub mod Examples
