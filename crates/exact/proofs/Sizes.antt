@@ -11,6 +11,7 @@ use Rattle.exact.specs.Cyclotomic.{Cyclotomic, power}
 use Rattle.exact.specs.Quads.{Pair, Quad, pair-mul, quad-mul}
 use Rattle.exact.specs.Models.{gaussian, tenfold, pair-list, quad-list}
 use Rattle.exact.specs.Sizes.{Between, Within, SizeLaws}
+use Rattle.exact.specs.Sweeps.{sweep}
 use Rattle.exact.proofs.Solver.{Ex, v, nil, unit, plus, times, minus}
 use Rattle.exact.proofs.Coefficients.{pair-solved, quad-solved, two-at, four-at, X2, X4}
 use Rattle.exact.proofs.GaussianLaws.{gaussian-laws}
@@ -223,3 +224,14 @@ tenfold-sizes = record {
   turn-size = λ k s x p. rounded (2 * s) _ (tenfold-turn k (2 * s) x (round s x p));
   mul-size = tenfold-product
 }
+
+-- ---- sweeps
+pub within-wider : (s t : ℕ) (l : List ℤ) → s ≤ t → Within s l → Within t l
+within-wider s t [] h p = tt
+within-wider s t (c ∷ cs) h p = (wider s t c h (p .0), within-wider s t cs h (p .1))
+
+-- conj(p)·q - p·conj(q): two products of coefficients, one of the factors doubled
+pub sweep-size : (E : Cyclotomic) → SizeLaws E → (s : ℕ) (p q : E .Elem) → Within s (E .list p) → Within s (E .list q) → Within (32 * (s * s)) (E .list (sweep E p q))
+sweep-size E Z s p q h g =
+    within-wider (8 * (2 * s * s) + 8 * (s * (2 * s))) (32 * (s * s)) _ (omega arith)
+    (Z .sum-size _ _ _ _ (Z .mul-size (2 * s) s _ _ (Z .conj-size s p h) g) (Z .neg-size _ _ (Z .mul-size s (2 * s) _ _ h (Z .conj-size s q g))))

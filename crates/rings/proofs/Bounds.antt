@@ -6,6 +6,7 @@ use native.Mathlib.Nat.{mul-le-mul}
 use native.Mathlib.Omega.{arith}
 use mir.Syntax.{w64}
 use mir.Val.{SFits, toZ, ofZ}
+use lib.Dec.{lit≤}
 use lib.IntN.{ℤ, pos, negsuc, negℤ, _+ℤ_, _*ℤ_, natAbs}
 use lib.Signed.{_≤ℤ_, ltZ}
 use borrow.Author.Differences.{ints, fits-out, same-out, apart-out, lt-T, le-T, lt-not, le-not, lt-true, lt-false, le-true, le-false, true-lt, false-lt, true-le, false-le, not-negative-out, lt-out, le-out, fits-in, same-in, lt-in, le-in, below-in, at-most-in, not-negative-in, true-is-lt, false-is-lt, true-is-le, false-is-le, sum-is, neg-is, abs-is, mag-is, back-is, small-is, read-fits, bits-is}
@@ -16,11 +17,12 @@ use Rattle.exact.specs.Cyclotomic.{Cyclotomic}
 use Rattle.exact.specs.Residues.{Residue, residue}
 use Rattle.exact.proofs.Totals.{residue-at, residue-add, residue-neg}
 use Rattle.exact.proofs.Surds.{square-above}
-use Rattle.exact.proofs.Sizes.{product-between}
+use Rattle.exact.proofs.Sizes.{product-between, sweep-size, within-wider}
 use Rattle.exact.proofs.Coefficients.{quad-same}
 use Rattle.exact.proofs.TenfoldLaws.{by-crosses}
-use Rattle.exact.specs.Sizes.{Between}
-use Rattle.rings.specs.Plane.{plane-bound, height-bound, products}
+use Rattle.exact.specs.Sizes.{Between, Within, SizeLaws}
+use Rattle.exact.specs.Sweeps.{sweep}
+use Rattle.rings.specs.Plane.{OnPlane, plane-bound, height-bound, sweep-bound, products}
 use Rattle.rings.specs.Answers.{Exactly, HeightOf}
 use Rattle.rings.specs.declared.fault.RingFault.{RingFault}
 
@@ -134,3 +136,7 @@ back-between {s} {z} f h = subst (Between s) (toZ-ofZ w64 z f) h
 
 pub between-back : {s : ℕ} {z : ℤ} → SFits w64 z → Between s z → Between s (back z)
 between-back {s} {z} f h = subst (Between s) (sym (toZ-ofZ w64 z f)) h
+
+-- ---- sweeps between positions of a ring with the size laws
+pub sweeps-small : (E : Cyclotomic) → SizeLaws E → (p q : E .Elem) → OnPlane E p → OnPlane E q → Within sweep-bound (E .list (sweep E p q))
+sweeps-small E Z p q h g = within-wider (32 * (plane-bound * plane-bound)) sweep-bound (E .list (sweep E p q)) (lit≤ tt) (sweep-size E Z plane-bound p q h g)

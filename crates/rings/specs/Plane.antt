@@ -14,6 +14,10 @@ plane-bound = 1048576
 abbrev pub height-bound : ℕ
 height-bound = 536870912
 
+-- more than the size of any coefficient of a sweep between two positions; a dozen such sweeps do not wrap
+abbrev pub sweep-bound : ℕ
+sweep-bound = 288230376151711744
+
 -- the largest size of a sum of k products of coefficients of positions
 abbrev pub products : ℕ → ℕ
 products k = k * (plane-bound * plane-bound)

@@ -6,8 +6,9 @@ ghost use lib.IntN.{ℤ, pos};
 ghost use lib.ListN.{getD};
 ghost use Rattle.exact.specs.Cyclotomic.{Cyclotomic, CyclotomicLaws, power, same-element};
 ghost use Rattle.exact.specs.Residues.{Residue, Total, residue};
+ghost use Rattle.exact.specs.Sizes.{Within};
 ghost use Rattle.exact.specs.Sweeps.{sweep, total-of, read-total};
-ghost use Rattle.rings.specs.Plane.{OnPlane, read-list};
+ghost use Rattle.rings.specs.Plane.{OnPlane, read-list, sweep-bound};
 ghost use Rattle.rings.specs.Answers.{Exactly, HeightOf};
 ghost use Rattle.rings.specs.Tied.{TiedToTotals};
 use crate::fault::RingFault;
@@ -53,6 +54,9 @@ pub trait Ring: Copy + PartialEq<Self> {
     law tied: { TiedToTotals (Sweep·Group .group) (Sweep·Group .worth) total };
 
     law total_ends: { (s : Self·Sweep) (k : ℕ) → exact .d ≤ k → total s k ≡ residue (pos 0) };
+
+    // a sweep between positions is small: its coefficients are the exact ones, and so are those of a dozen added up
+    law sweeps_small: { (p q : Self) → Within sweep-bound (exact .list (sweep exact (value p) (value q))) };
 
     fn order() -> u32
         ensures { λ r. ⌜ r ≡ exact .n ⌝ };
