@@ -19,8 +19,8 @@ use Rattle.chains.specs.Inflation.{stepped, subdivided, inflate, inflated}
 use Rattle.chains.specs.Placements.{image, heading, signed, placed-edge, placed-entry, placed, stretched, child-of, children-of, outline, placed-outline, outlines}
 use Rattle.chains.specs.Accepted.{lengths, turned-part, backwards, total-sweep, FactorAboveOne, LengthAboveZero, SubdivisionFits, OutlineCloses, ChildrenBalance, Accepted}
 use Rattle.chains.specs.Addresses.{child-count, child-tile, seed-tile, tile-below, node-tile, seeds-from, children-from, child-placement, placement-below, seed-placement, node-placement}
-use Rattle.chains.specs.Frontiers.{expand, lay, at-start, then, node-outline, grown-outline, laid-outlines, lacking-outlines, seed-outlines}
-use Rattle.chains.specs.Examples.{chair, penrose, chair-child, OneChairLaidCounts, OutlineSweeps, WrongMarkShows, EachConditionRefuses}
+use Rattle.chains.specs.Frontiers.{Reached, expand, lay, set-aside, at-start, then, node-outline, grown-outline, laid-outlines, lacking-outlines, seed-outlines}
+use Rattle.chains.specs.Examples.{chair, penrose, one-chair, one-chair-laid, chair-child, OneChairLaidCounts, OutlineSweeps, WrongMarkShows, EachConditionRefuses}
 use Rattle.chains.proofs.Occurring.{suffices}
 
 -- every definition that a computed case goes through
@@ -137,10 +137,15 @@ module _ (depth : ℕ) (seeds : List PlacedNumbers) where
   }
 
 -- ---- one chair laid
+one-laid : Reached one-chair one-chair-laid
+unfolding opened
+one-laid = then _ _ (then _ _ at-start (expand [] [] [] [] (record { seed = 0; path = [] }) (omega arith))) (lay [] [] [] (chair-child 1 ∷ chair-child 2 ∷ chair-child 3 ∷ []) (chair-child 0) refl)
+
 pub one-chair-counts : OneChairLaidCounts
 unfolding opened
 one-chair-counts = record {
-  reached = then _ _ (then _ _ at-start (expand [] [] [] [] (record { seed = 0; path = [] }) (omega arith))) (lay [] [] [] (chair-child 1 ∷ chair-child 2 ∷ chair-child 3 ∷ []) (chair-child 0) refl);
+  reached = one-laid;
+  reached-later = then _ _ (then _ _ one-laid (lay (chair-child 0 ∷ []) [] [] (chair-child 2 ∷ chair-child 3 ∷ []) (chair-child 1) refl)) (set-aside (chair-child 0 ∷ chair-child 1 ∷ []) [] [] (chair-child 3 ∷ []) (chair-child 2));
   laid-counts = refl;
   pending-counts = refl;
   seed-counts = refl;

@@ -8,6 +8,7 @@ use lib.Dec.{eqb, ltb}
 use Rattle.exact.specs.Cyclotomic.{Cyclotomic, power, half, same-element}
 use Rattle.exact.specs.Groups.{AbelianGroup}
 use Rattle.exact.specs.JobNumbers.{Step}
+use Rattle.exact.specs.Sweeps.{sweep}
 use Rattle.chains.specs.Counts.{Counted, tally}
 use Rattle.chains.specs.Books.{Book, label-at}
 
@@ -49,7 +50,7 @@ module _ (E : Cyclotomic) (B : Book E) where
       (record { what = edge E (x .what .label) (x .what .direction) (x .what .start); count = x .count })
       (record { what = reversed (x .what); count = negℤ (x .count) })
 
-  -- the net count of an edge, itself in canonical form: the sum of its counts
+  -- The net count of an edge is the sum of its counts. An edge that is not in canonical form is counted as the one that it is written as, so its own net count is 0.
   unfoldable pub net : Chain E → Edge E → ℤ
   net c y = tally (same-edge E) (map canonical c) y
 
@@ -86,3 +87,7 @@ module _ (E : Cyclotomic) (B : Book E) where
 -- the elements of a ring with their sums, as a group to read edges into
 abbrev pub sums : Cyclotomic → AbelianGroup
 sums E = record { Val = E .Elem; zero = E .zero; sum = E .add; opposite = E .neg }
+
+-- the sweep from an edge's start to its end
+unfoldable pub edge-sweep : (E : Cyclotomic) → Book E → Edge E → E .Elem
+edge-sweep E B x = sweep E (x .start) (along E B (x .label) (x .direction) (x .start))

@@ -91,13 +91,18 @@ chair-child i = record { seed = 0; path = i ∷ [] }
 abbrev pub one-chair-laid : Frontier
 one-chair-laid = record { laid = chair-child 0 ∷ []; aside = []; pending = chair-child 1 ∷ chair-child 2 ∷ chair-child 3 ∷ [] }
 
+-- Two moves later: the second child is laid too, the third is set aside.
+abbrev pub one-chair-aside : Frontier
+one-chair-aside = record { laid = chair-child 0 ∷ chair-child 1 ∷ []; aside = chair-child 2 ∷ []; pending = chair-child 3 ∷ [] }
+
 -- the edge [0, 0, (1,1)]
 abbrev pub inner-edge : Edge gaussian
 inner-edge = record { label = 0; direction = 0; start = gaussian .of (two (pos 1) (pos 1)) }
 
--- That frontier is reached, and the edge counts -1 over what is laid, +1 over what is pending, 0 over the seed's inflated outline.
+-- Both frontiers are reached; over the first, the edge counts -1 over what is laid, +1 over what is pending, 0 over the seed's inflated outline.
 pub record OneChairLaidCounts : Type 0 where
   pub reached : Reached one-chair one-chair-laid
+  pub reached-later : Reached one-chair one-chair-aside
   pub laid-counts : net gaussian (book-of gaussian one-chair) (laid-outlines gaussian one-chair one-chair-laid) inner-edge ≡ negsuc 0
   pub pending-counts : net gaussian (book-of gaussian one-chair) (lacking-outlines gaussian one-chair one-chair-laid) inner-edge ≡ pos 1
   pub seed-counts : net gaussian (book-of gaussian one-chair) (seed-outlines gaussian one-chair) inner-edge ≡ pos 0

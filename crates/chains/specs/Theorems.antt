@@ -11,13 +11,12 @@ use Rattle.std.specs.declared.option.Option.the-variants.{Some, None}
 use Rattle.exact.specs.Cyclotomic.{Cyclotomic}
 use Rattle.exact.specs.Groups.{AbelianGroup}
 use Rattle.exact.specs.JobNumbers.{JobNumbers}
-use Rattle.exact.specs.Sweeps.{sweep}
 use Rattle.chains.specs.Counts.{reading}
 use Rattle.chains.specs.Books.{Book, Placement, label-at, book-of, seeds-of}
-use Rattle.chains.specs.Edges.{Edge, Chain, along, canonical, net, SameNet, ReadsEdges, sums}
+use Rattle.chains.specs.Edges.{Edge, Chain, canonical, net, SameNet, ReadsEdges, sums, edge-sweep}
 use Rattle.chains.specs.Inflation.{inflate}
-use Rattle.chains.specs.Placements.{image, heading, placed, stretched, child-of, children-of, placed-outline, outlines}
-use Rattle.chains.specs.Accepted.{SubdivisionFits, Accepted}
+use Rattle.chains.specs.Placements.{image, heading, placed, stretched, child-of, children-of, outline, placed-outline, outlines}
+use Rattle.chains.specs.Accepted.{total-sweep, SubdivisionFits, Accepted}
 use Rattle.chains.specs.Addresses.{Address, level, seed-address, child-address, child-count, node-tile, children-from, seeds-from, seed-on, behind, pending, advance, node-placement, placement-at}
 use Rattle.chains.specs.Frontiers.{Frontier, Move, Reached, OfTheJob, Conserved, node-outline, laid-outlines, lacking-outlines, seed-outlines}
 
@@ -26,9 +25,10 @@ abbrev pub SameNetsReadAlike : Cyclotomic → AbelianGroup → Type 0
 SameNetsReadAlike E G = (B : Book E) (r : Edge E → G .Val) → ReadsEdges E B G r →
     (c c′ : Chain E) → SameNet E B c c′ → reading G r c ≡ reading G r c′
 
--- The sweep from an edge's start to its end is such a reading, into the ring's sums.
-abbrev pub SweepsReadEdges : Cyclotomic → Type 0
-SweepsReadEdges E = (B : Book E) → ReadsEdges E B (sums E) (λ x. sweep E (x .start) (along E B (x .label) (x .direction) (x .start)))
+-- The sweep from an edge's start to its end is such a reading, into the ring's sums; an outline's reading is its total sweep.
+pub record SweepsReadEdges (E : Cyclotomic) : Type 0 where
+  pub reads : (B : Book E) → ReadsEdges E B (sums E) (edge-sweep E B)
+  pub outline-reads : (B : Book E) (t : ℕ) → reading (sums E) (edge-sweep E B) (outline E B t) ≡ total-sweep E B t
 
 -- Where every subdivision fits, inflation keeps equal net counts.
 abbrev pub InflationKeepsSameNets : Cyclotomic → Type 0
@@ -82,7 +82,7 @@ abbrev pub OnlyTheRightOutlineConserves : Cyclotomic → Type 0
 OnlyTheRightOutlineConserves E = (N : JobNumbers) → Accepted E (book-of E N) →
     (f : Frontier) → Reached N f → (before after : List Address) (a : Address) → f .laid ≡ before ++ a ∷ after → (q : Placement E) →
     ((y : Edge E) → net E (book-of E N) (outlines E (book-of E N) (map (node-placement E N) before ++ q ∷ map (node-placement E N) after)) y
-        +ℤ net E (book-of E N) (lacking-outlines E N f) y ≡ net E (book-of E N) (seed-outlines E N) y) →
+    +ℤ net E (book-of E N) (lacking-outlines E N f) y ≡ net E (book-of E N) (seed-outlines E N) y) →
     SameNet E (book-of E N) (placed-outline E (book-of E N) q) (node-outline E N a)
 
 -- Every reading is conserved too: what is laid and what is lacking read together as the inflated seed reads.

@@ -11,7 +11,7 @@ pub fn same_nets_read_alike<R: Ring, G: Group>() -> u8
     0
 }
 
-// The sweep from an edge's start to its end is such a reading.
+// The sweep from an edge's start to its end is such a reading, and an outline's reading by it is its total sweep.
 pub fn sweeps_read_edges<R: Ring>() -> u8
     ensures { λ _. ⌜ SweepsReadEdges exact ⌝ }
 {
