@@ -8,7 +8,7 @@ use std::alloc::Global;
 use std::error::AnyError;
 
 // The position with the listed coefficients.
-pub fn made<R: Ring>(list: &[i64]) -> Result<R, AnyError> {
+pub(crate) fn made<R: Ring>(list: &[i64]) -> Result<R, AnyError> {
     match R::make(list) {
         Ok(z) => Ok(z),
         Err(_) => Err("off the plane".into()),
@@ -65,7 +65,7 @@ fn corners<R: Ring>(rt: &LibcRuntime, list: &[R]) -> Result<(), AnyError> {
     Ok(())
 }
 
-pub fn describe<R: Ring>(rt: &LibcRuntime, name: &str, lengths: &[R], steps: &[Step]) -> Result<(), AnyError> {
+pub(crate) fn describe<R: Ring>(rt: &LibcRuntime, name: &str, lengths: &[R], steps: &[Step]) -> Result<(), AnyError> {
     println!(rt, "  {name}")?;
     let walked = match walk(rt.alloc(), lengths, steps) {
         Ok(walked) => walked,

@@ -58,6 +58,13 @@ pub trait Ring: Copy + PartialEq<Self> {
     // a sweep between positions is small: its coefficients are the exact ones, and so are those of a dozen added up
     law sweeps_small: { (p q : Self) → Within sweep-bound (exact .list (sweep exact (value p) (value q))) };
 
+    // Turned by k n-ths of a circle.
+    fn turn(self, k: u32) -> Result<Self, RingFault>
+        ensures { λ r. ⌜ Exactly exact value r (exact .mul (power exact k) (value self)) ⌝ }
+    {
+        Self::unit(k).mul(self)
+    }
+
     fn order() -> u32
         ensures { λ r. ⌜ r ≡ exact .n ⌝ };
 
@@ -99,13 +106,6 @@ pub trait Ring: Copy + PartialEq<Self> {
 
     fn conj(self) -> Result<Self, RingFault>
         ensures { λ r. ⌜ Exactly exact value r (exact .conj (value self)) ⌝ };
-
-    // Turned by k n-ths of a circle.
-    fn turn(self, k: u32) -> Result<Self, RingFault>
-        ensures { λ r. ⌜ Exactly exact value r (exact .mul (power exact k) (value self)) ⌝ }
-    {
-        Self::unit(k).mul(self)
-    }
 
     // 1 above the real axis, 0 on it, -1 below.
     fn height(self) -> Result<i8, RingFault>
