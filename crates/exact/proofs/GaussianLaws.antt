@@ -39,7 +39,6 @@ abbrev ζ# : Pair Ex
 
 infixl 6 _⊕_
 infixl 7 _⊗_
-
 abbrev at : Pair ℤ → Pair ℤ → Pair ℤ → List ℤ
 at x y z = two-at x (two-at y (two-at z []))
 
@@ -83,7 +82,7 @@ gaussian-laws = record {
     mul-assoc = λ x y z. pair-solved (at x y z) (X2 ⊗ Y2 ⊗ Z2) (X2 ⊗ (Y2 ⊗ Z2)) (tt, tt);
     mul-comm = λ x y. pair-solved (at x y y) (X2 ⊗ Y2) (Y2 ⊗ X2) (tt, tt);
     mul-one = λ x. pair-solved (at x x x) (X2 ⊗ 1#) X2 (tt, tt);
-    mul-add = λ x y z. pair-solved (at x y z) (X2 ⊗ (Y2 ⊕ Z2)) (X2 ⊗ Y2 ⊕ X2 ⊗ Z2) (tt, tt)
+    mul-add = λ x y z. pair-solved (at x y z) (X2 ⊗ (Y2 ⊕ Z2)) (X2 ⊗ Y2 ⊕ X2 ⊗ Z2) (tt, tt);
   };
   conj-conj = λ x. pair-solved (at x x x) (conj (conj X2)) X2 (tt, tt);
   conj-add = λ x y. pair-solved (at x y y) (conj (X2 ⊕ Y2)) (conj X2 ⊕ conj Y2) (tt, tt);
@@ -96,7 +95,7 @@ gaussian-laws = record {
   height-zeta = refl;
   height-neg = λ z. sign-neg (z .c1);
   height-real = λ z e. ap sign (own-opposite (z .c1) (ap (λ w. w .c1) e));
-  height-add = λ x y. sign-add (x .c1) (y .c1)
+  height-add = λ x y. sign-add (x .c1) (y .c1);
 }
 
 abbrev cross : Ex

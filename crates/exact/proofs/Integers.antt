@@ -8,9 +8,19 @@ use Rattle.exact.proofs.Solver.{Commutative}
 
 pub *ℤ-assoc : (a b c : ℤ) → (a *ℤ b) *ℤ c ≡ a *ℤ (b *ℤ c)
 *ℤ-assoc a b c =
-    same-in _ _ (omega (arith, product-is (a *ℤ b) c, product-is a (b *ℤ c),
-    ap (λ x. x * up c) (product-is a b .0), ap (λ x. x * down c) (product-is a b .0), ap (λ x. x * up c) (product-is a b .1), ap (λ x. x * down c) (product-is a b .1),
-    ap (λ x. up a * x) (product-is b c .0), ap (λ x. down a * x) (product-is b c .0), ap (λ x. up a * x) (product-is b c .1), ap (λ x. down a * x) (product-is b c .1)))
+    same-in _ _ (omega (
+      arith,
+      product-is (a *ℤ b) c,
+      product-is a (b *ℤ c),
+      ap (λ x. x * up c) (product-is a b .0),
+      ap (λ x. x * down c) (product-is a b .0),
+      ap (λ x. x * up c) (product-is a b .1),
+      ap (λ x. x * down c) (product-is a b .1),
+      ap (λ x. up a * x) (product-is b c .0),
+      ap (λ x. down a * x) (product-is b c .0),
+      ap (λ x. up a * x) (product-is b c .1),
+      ap (λ x. down a * x) (product-is b c .1),
+    ))
 
 pub *ℤ-add : (a b c : ℤ) → a *ℤ (b +ℤ c) ≡ a *ℤ b +ℤ a *ℤ c
 *ℤ-add a b c =
@@ -35,6 +45,6 @@ integers = record {
     mul-assoc = *ℤ-assoc;
     mul-comm = *ℤ-comm;
     mul-one = *ℤ-idr;
-    mul-add = *ℤ-add
-  }
+    mul-add = *ℤ-add;
+  };
 }

@@ -24,7 +24,6 @@ abbrev 1# : Quad Ex
 
 infixl 6 _⊕_
 infixl 7 _⊗_
-
 module _ (r : Quad ℤ) where
   abbrev at : Quad ℤ → Quad ℤ → Quad ℤ → List ℤ
   at x y z = four-at x (four-at y (four-at z (four-at r [])))
@@ -40,5 +39,5 @@ module _ (r : Quad ℤ) where
     mul-assoc = λ x y z. quad-solved (at x y z) (X4 ⊗ Y4 ⊗ Z4) (X4 ⊗ (Y4 ⊗ Z4)) (tt, tt, tt, tt);
     mul-comm = λ x y. quad-solved (at x y y) (X4 ⊗ Y4) (Y4 ⊗ X4) (tt, tt, tt, tt);
     mul-one = λ x. quad-solved (at x x x) (X4 ⊗ 1#) X4 (tt, tt, tt, tt);
-    mul-add = λ x y z. quad-solved (at x y z) (X4 ⊗ (Y4 ⊕ Z4)) (X4 ⊗ Y4 ⊕ X4 ⊗ Z4) (tt, tt, tt, tt)
+    mul-add = λ x y z. quad-solved (at x y z) (X4 ⊗ (Y4 ⊕ Z4)) (X4 ⊗ Y4 ⊕ X4 ⊗ Z4) (tt, tt, tt, tt);
   }

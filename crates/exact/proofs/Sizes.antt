@@ -91,8 +91,10 @@ gaussian-sizes = record {
   neg-size = λ s x p. (neg-between s (x .c0) (p .0), (neg-between s (x .c1) (p .1 .0), tt));
   conj-size = λ s x p. (double s (x .c0) (p .0), (double s (negℤ (x .c1)) (neg-between s (x .c1) (p .1 .0)), tt));
   turn-size = λ k s x p. let g = gaussian-turn k s x p in (double s _ (g .0), (double s _ (g .1 .0), tt));
-  mul-size = λ s t x y p q. (two-differ s t (x .c0) (y .c0) (x .c1) (y .c1) (p .0) (q .0) (p .1 .0) (q .1 .0),
-      (two-products s t (x .c0) (y .c1) (x .c1) (y .c0) (p .0) (q .1 .0) (p .1 .0) (q .0), tt))
+  mul-size = λ s t x y p q. (
+    two-differ s t (x .c0) (y .c0) (x .c1) (y .c1) (p .0) (q .0) (p .1 .0) (q .1 .0),
+    (two-products s t (x .c0) (y .c1) (x .c1) (y .c0) (p .0) (q .1 .0) (p .1 .0) (q .0), tt),
+  );
 }
 
 -- ---- Z[ζ10]: a turn by ζ brings (c0, c1, c2, c3) to (-c3, c0 + c3, c1 - c3, c2 + c3)
@@ -127,7 +129,7 @@ round s x (p0, (p1, (p2, (p3, u)))) = record {
   f23 = doubled-sum s _ _ p2 p3;
   f02 = doubled-difference s _ _ p0 p2;
   f12 = doubled-sum s _ _ p1 p2;
-  f01 = doubled-sum s _ _ p0 p1
+  f01 = doubled-sum s _ _ p0 p1;
 }
 
 -- an equal number is as small
@@ -145,19 +147,24 @@ round-turned s x r = record {
   f23 = as-small s (e23 (x .c1) (x .c2) (x .c3)) (r .f12);
   f02 = as-small s (e02 (x .c1) (x .c3)) (neg-between s _ (r .f1));
   f12 = as-small s (e12 (x .c0) (x .c1) (x .c3)) (r .f01);
-  f01 = as-small s (e01 (x .c0) (x .c3)) (r .f0)
+  f01 = as-small s (e01 (x .c0) (x .c3)) (r .f0);
 }
   where
     e03 : (b c : ℤ) → b ≡ negℤ c +ℤ (b +ℤ c)
     e03 b c = omega (arith, ints)
+
     e13 : (a b c : ℤ) → a +ℤ negℤ b ≡ a +ℤ c +ℤ negℤ (b +ℤ c)
     e13 a b c = omega (arith, ints)
+
     e23 : (a b c : ℤ) → a +ℤ b ≡ a +ℤ negℤ c +ℤ (b +ℤ c)
     e23 a b c = omega (arith, ints)
+
     e02 : (a c : ℤ) → negℤ a ≡ negℤ c +ℤ negℤ (a +ℤ negℤ c)
     e02 a c = omega (arith, ints)
+
     e12 : (a b c : ℤ) → a +ℤ b ≡ a +ℤ c +ℤ (b +ℤ negℤ c)
     e12 a b c = omega (arith, ints)
+
     e01 : (a c : ℤ) → a ≡ negℤ c +ℤ (a +ℤ c)
     e01 a c = omega (arith, ints)
 
@@ -205,16 +212,23 @@ module _ (s t : ℕ) (x y : Quad ℤ) (h : Within s (quad-list x)) (g : Within t
   fold = sum-between (one + one) one _ _ (sum-between one one _ _ (by _ _ x1 y3) (by _ _ x2 y2)) (by _ _ x3 y1)
 
   tenfold-product : Within (8 * (s * t)) (quad-list (tenfold .mul x y))
-  tenfold-product = subst (λ z. Within (8 * (s * t)) (quad-list z)) (mul-by-rows x y)
-      (wider (one + (one + one) + (one + one + one)) _ _ (omega arith)
+  tenfold-product = subst (λ z. Within (8 * (s * t)) (quad-list z)) (mul-by-rows x y) (
+    wider (one + (one + one) + (one + one + one)) _ _ (omega arith)
         (sum-between (one + (one + one)) (one + one + one) _ _ (sum-between one (one + one) _ _ (by _ _ x0 y0) (neg-between (one + one) _ (sum-between one one _ _ (by _ _ x2 y3) (by _ _ x3 y2)))) (neg-between (one + one + one) _ fold)),
-      (wider (one + one + one + (one + one + one)) _ _ (omega arith)
-        (sum-between (one + one + one) (one + one + one) _ _ (sum-between (one + one) one _ _ (sum-between one one _ _ (by _ _ x0 y1) (by _ _ x1 y0)) (neg-between one _ (by _ _ x3 y3))) fold),
-      (wider (one + one + one + (one + one + one)) _ _ (omega arith)
-        (sum-between (one + one + one) (one + one + one) _ _ (sum-between (one + one) one _ _ (sum-between one one _ _ (by _ _ x0 y2) (by _ _ x1 y1)) (by _ _ x2 y0)) (neg-between (one + one + one) _ fold)),
-      (wider (one + one + (one + one) + (one + one + one)) _ _ (omega arith)
-        (sum-between (one + one + (one + one)) (one + one + one) _ _ (sum-between (one + one) (one + one) _ _ (sum-between one one _ _ (by _ _ x0 y3) (by _ _ x3 y0)) (sum-between one one _ _ (by _ _ x1 y2) (by _ _ x2 y1))) fold),
-      tt))))
+    (
+      wider (one + one + one + (one + one + one)) _ _ (omega arith)
+          (sum-between (one + one + one) (one + one + one) _ _ (sum-between (one + one) one _ _ (sum-between one one _ _ (by _ _ x0 y1) (by _ _ x1 y0)) (neg-between one _ (by _ _ x3 y3))) fold),
+      (
+        wider (one + one + one + (one + one + one)) _ _ (omega arith)
+            (sum-between (one + one + one) (one + one + one) _ _ (sum-between (one + one) one _ _ (sum-between one one _ _ (by _ _ x0 y2) (by _ _ x1 y1)) (by _ _ x2 y0)) (neg-between (one + one + one) _ fold)),
+        (
+          wider (one + one + (one + one) + (one + one + one)) _ _ (omega arith)
+              (sum-between (one + one + (one + one)) (one + one + one) _ _ (sum-between (one + one) (one + one) _ _ (sum-between one one _ _ (by _ _ x0 y3) (by _ _ x3 y0)) (sum-between one one _ _ (by _ _ x1 y2) (by _ _ x2 y1))) fold),
+          tt,
+        ),
+      ),
+    ),
+  )
 
 pub tenfold-sizes : SizeLaws tenfold
 tenfold-sizes = record {
@@ -222,7 +236,7 @@ tenfold-sizes = record {
   neg-size = λ s x p. (neg-between s (x .c0) (p .0), (neg-between s (x .c1) (p .1 .0), (neg-between s (x .c2) (p .1 .1 .0), (neg-between s (x .c3) (p .1 .1 .1 .0), tt))));
   conj-size = λ s x p. (doubled-sum s _ _ (p .0) (p .1 .0), (double s _ (neg-between s _ (p .1 .0)), (doubled-difference s _ _ (p .1 .0) (p .1 .1 .1 .0), (doubled-difference s _ _ (neg-between s _ (p .1 .0)) (p .1 .1 .0), tt))));
   turn-size = λ k s x p. rounded (2 * s) _ (tenfold-turn k (2 * s) x (round s x p));
-  mul-size = tenfold-product
+  mul-size = tenfold-product;
 }
 
 -- ---- sweeps

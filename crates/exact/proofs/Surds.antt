@@ -142,14 +142,14 @@ module _ (k : ℕ) where
   wide-product u b t c p q h g =
       let e : u *ℤ t ≡ pos (natAbs u * natAbs t) = ap₂ _*ℤ_ (above-zero u p) (above-zero t q) in
       let m = cross-wide (natAbs u) (natAbs b) (natAbs t) (natAbs c)
-            (nat-lt _ _ _ _ (scaled-nat (b *ℤ b) _ (square-abs b)) (square-abs u) h) (nat-lt _ _ _ _ (scaled-nat (c *ℤ c) _ (square-abs c)) (square-abs t) g) in
+      (nat-lt _ _ _ _ (scaled-nat (b *ℤ b) _ (square-abs b)) (square-abs u) h) (nat-lt _ _ _ _ (scaled-nat (c *ℤ c) _ (square-abs c)) (square-abs t) g) in
       lt-nat (scaled (b *ℤ c)) (u *ℤ t) _ _ (scaled-low (b *ℤ c) _ (product-abs b c)) e m
 
   narrow-product : (u b t c : ℤ) → pos 0 <ℤ b → pos 0 <ℤ c → (u *ℤ u) ≤ℤ scaled (b *ℤ b) → (t *ℤ t) ≤ℤ scaled (c *ℤ c) → (u *ℤ t) ≤ℤ scaled (b *ℤ c)
   narrow-product u b t c p q h g =
       let e : b *ℤ c ≡ pos (natAbs b * natAbs c) = ap₂ _*ℤ_ (above-zero b p) (above-zero c q) in
       let m = cross-narrow (natAbs u) (natAbs b) (natAbs t) (natAbs c)
-            (nat-le _ _ _ _ (scaled-nat (b *ℤ b) _ (square-abs b)) (square-abs u) h) (nat-le _ _ _ _ (scaled-nat (c *ℤ c) _ (square-abs c)) (square-abs t) g) in
+      (nat-le _ _ _ _ (scaled-nat (b *ℤ b) _ (square-abs b)) (square-abs u) h) (nat-le _ _ _ _ (scaled-nat (c *ℤ c) _ (square-abs c)) (square-abs t) g) in
       le-nat (scaled (b *ℤ c)) (u *ℤ t) _ _ (scaled-nat (b *ℤ c) _ e) (product-abs u t) m
 
   scaled-sum : (a b : ℤ) → scaled ((a +ℤ b) *ℤ (a +ℤ b)) ≡ scaled (a *ℤ a) +ℤ scaled (b *ℤ b) +ℤ (scaled (a *ℤ b) +ℤ scaled (a *ℤ b))
@@ -210,18 +210,23 @@ module _ (k : ℕ) where
     where
       none-wide : (x y : ℤ) → pos 0 ≤ℤ y → ltZ y x ≡ true → x ≡ pos 0 → ⊥
       none-wide x y p e f = omega (arith, ints)
+
       none-narrow : (x y : ℤ) → pos 0 ≤ℤ x → ltZ y x ≡ false → y ≡ pos 0 → x ≡ pos 0
       none-narrow x y p e f = omega (arith, ints)
+
       square-none : (z : ℤ) → z ≡ pos 0 → z *ℤ z ≡ pos 0
       square-none z e = ap (λ y. y *ℤ y) e
+
       by-u : wide u b ≡ true → (pos 0 <ℤ u) ⊎ ((pos 0 <ℤ negℤ u) ⊎ (u ≡ pos 0)) → Above true u b ⊎ (Above true (negℤ u) (negℤ b) ⊎ Zero u b)
       by-u h (inl p) = inl (h, p)
       by-u h (inr (inl p)) = inr (inl (wide-neg u b ∙ h, p))
       by-u h (inr (inr e)) = absurd (none-wide (u *ℤ u) (scaled (b *ℤ b)) (scaled-above b) h (square-none u e))
+
       by-b : wide u b ≡ false → (pos 0 <ℤ b) ⊎ ((pos 0 <ℤ negℤ b) ⊎ (b ≡ pos 0)) → Above false u b ⊎ (Above false (negℤ u) (negℤ b) ⊎ Zero u b)
       by-b h (inl p) = inl (h, p)
       by-b h (inr (inl p)) = inr (inl (wide-neg u b ∙ h, p))
       by-b h (inr (inr e)) = inr (inr (square-root u (none-narrow (u *ℤ u) (scaled (b *ℤ b)) (square-above u) h (scaled-none b e)), e))
+
       by : (w : Bool) → wide u b ≡ w → Above w u b ⊎ (Above w (negℤ u) (negℤ b) ⊎ Zero u b)
       by true h = by-u h (three-ways u)
       by false h = by-b h (three-ways b)

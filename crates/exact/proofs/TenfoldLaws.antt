@@ -41,7 +41,6 @@ abbrev ζ# : Quad Ex
 
 infixl 6 _⊕_
 infixl 7 _⊗_
-
 abbrev at : Quad ℤ → Quad ℤ → Quad ℤ → List ℤ
 at x y z = four-at x (four-at y (four-at z []))
 
@@ -97,6 +96,7 @@ height-real z e =
   where
     first : (a : ℤ) → negℤ a ≡ a → a ≡ pos 0
     first a e = omega (arith, ints)
+
     second : (a b c : ℤ) → negℤ a ≡ a → a -ℤ c ≡ b → b +ℤ c ≡ pos 0
     second a b c e f = omega (arith, ints)
 
@@ -118,7 +118,7 @@ tenfold-laws = record {
   height-zeta = refl;
   height-neg = λ z. ap (golden-sign (negℤ (z .c1))) (neg-sum (z .c2) (z .c3)) ∙ golden-neg (z .c1) (z .c2 +ℤ z .c3);
   height-real = height-real;
-  height-add = λ x y p q. ap (golden-sign (x .c1 +ℤ y .c1)) (four (x .c2) (y .c2) (x .c3) (y .c3)) ∙ golden-add (x .c1) (x .c2 +ℤ x .c3) (y .c1) (y .c2 +ℤ y .c3) p q
+  height-add = λ x y p q. ap (golden-sign (x .c1 +ℤ y .c1)) (four (x .c2) (y .c2) (x .c3) (y .c3)) ∙ golden-add (x .c1) (x .c2 +ℤ x .c3) (y .c1) (y .c2 +ℤ y .c3) p q;
 }
 
 -- ---- the product and the sweep, as the code works them out
@@ -144,7 +144,7 @@ module _ {A : Type 0} (_⊕_ _⊗_ : A → A → A) (⊖_ : A → A) where
     c0 = _⊕_ (row0 x y) (⊖_ (at4 x y));
     c1 = _⊕_ (row1 x y) (at4 x y);
     c2 = _⊕_ (row2 x y) (⊖_ (at4 x y));
-    c3 = _⊕_ (row3 x y) (at4 x y)
+    c3 = _⊕_ (row3 x y) (at4 x y);
   }
 
   -- the cross products of neighbouring coefficients, and of those farther apart

@@ -49,7 +49,7 @@ totals-laws = record {
   sum-comm = λ x y i k. plus-comm (x k) (y k) i;
   sum-assoc = λ x y z i k. plus-assoc (x k) (y k) (z k) i;
   sum-zero = λ x i k. plus-zero (x k) i;
-  sum-opposite = λ x i k. plus-less (x k) i
+  sum-opposite = λ x i k. plus-less (x k) i;
 }
 
 -- ---- totals of listed coefficients, coefficient by coefficient

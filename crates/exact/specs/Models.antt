@@ -28,7 +28,7 @@ gaussian = record {
   mul = pair-mul _+ℤ_ _*ℤ_ negℤ;
   neg = pair-neg _+ℤ_ _*ℤ_ negℤ;
   conj = pair-conj _+ℤ_ _*ℤ_ negℤ;
-  height = λ x. sign (x .c1)
+  height = λ x. sign (x .c1);
 }
 
 abbrev pub quad-list : Quad ℤ → List ℤ
@@ -56,5 +56,5 @@ tenfold = record {
   mul = quad-mul _+ℤ_ _*ℤ_ negℤ tenfold-reduction;
   neg = quad-neg _+ℤ_ _*ℤ_ negℤ;
   conj = tenfold-conj _+ℤ_ _*ℤ_ negℤ;
-  height = λ x. golden-sign (x .c1) (x .c2 +ℤ x .c3)
+  height = λ x. golden-sign (x .c1) (x .c2 +ℤ x .c3);
 }

@@ -24,7 +24,7 @@ module _ {A : Type 0} (_⊕_ _⊗_ : A → A → A) (⊖_ : A → A) where
   abbrev pub pair-mul : Pair A → Pair A → Pair A
   pair-mul x y = record {
     c0 = _⊕_ (_⊗_ (x .c0) (y .c0)) (⊖_ (_⊗_ (x .c1) (y .c1)));
-    c1 = _⊕_ (_⊗_ (x .c0) (y .c1)) (_⊗_ (x .c1) (y .c0))
+    c1 = _⊕_ (_⊗_ (x .c0) (y .c1)) (_⊗_ (x .c1) (y .c0));
   }
 
   abbrev pub pair-conj : Pair A → Pair A
@@ -45,7 +45,7 @@ module _ {A : Type 0} (_⊕_ _⊗_ : A → A → A) (⊖_ : A → A) where
     c0 = _⊗_ (r .c0) (x .c3);
     c1 = _⊕_ (x .c0) (_⊗_ (r .c1) (x .c3));
     c2 = _⊕_ (x .c1) (_⊗_ (r .c2) (x .c3));
-    c3 = _⊕_ (x .c2) (_⊗_ (r .c3) (x .c3))
+    c3 = _⊕_ (x .c2) (_⊗_ (r .c3) (x .c3));
   }
 
   -- x·y, where ζ⁴ = r: x times y's coefficients, from its highest power down
@@ -62,5 +62,5 @@ module _ {A : Type 0} (_⊕_ _⊗_ : A → A → A) (⊖_ : A → A) where
     c0 = _⊕_ (x .c0) (x .c1);
     c1 = ⊖_ (x .c1);
     c2 = _⊕_ (x .c1) (⊖_ (x .c3));
-    c3 = _⊕_ (⊖_ (x .c1)) (⊖_ (x .c2))
+    c3 = _⊕_ (⊖_ (x .c1)) (⊖_ (x .c2));
   }

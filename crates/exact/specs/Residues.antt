@@ -27,5 +27,5 @@ totals = record {
   Val = Total;
   zero = λ k. residue (pos 0);
   sum = λ s t k. residue (s k .at +ℤ t k .at);
-  opposite = λ s k. residue (negℤ (s k .at))
+  opposite = λ s k. residue (negℤ (s k .at));
 }

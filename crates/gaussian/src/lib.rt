@@ -84,19 +84,27 @@ pub impl Group for GaussianSweep as GaussianSweepGroup {
     }
 
     fn sum(self, other: GaussianSweep) -> GaussianSweep {
-        GaussianSweep { c0: self.c0.wrapping_add(other.c0), c1: self.c1.wrapping_add(other.c1) }
+        GaussianSweep {
+            c0: self.c0.wrapping_add(other.c0),
+            c1: self.c1.wrapping_add(other.c1),
+        }
     }
 
     fn opposite(self) -> GaussianSweep {
-        GaussianSweep { c0: 0i64.wrapping_sub(self.c0), c1: 0i64.wrapping_sub(self.c1) }
+        GaussianSweep {
+            c0: 0i64.wrapping_sub(self.c0),
+            c1: 0i64.wrapping_sub(self.c1),
+        }
     }
 }
 
 pub impl Ring for Gaussian as GaussianRing {
     const N: u32 = 4;
+
     const D: usize = 2;
 
     type Plain = GaussianRow;
+
     type Sweep = GaussianSweep;
 
     ghost exact = { gaussian };
@@ -126,7 +134,10 @@ pub impl Ring for Gaussian as GaussianRing {
     }
 
     fn plain(self) -> GaussianRow {
-        GaussianRow { c0: self.c0, c1: self.c1 }
+        GaussianRow {
+            c0: self.c0,
+            c1: self.c1,
+        }
     }
 
     fn coefficient(self, k: usize) -> i64 {
@@ -176,7 +187,10 @@ pub impl Ring for Gaussian as GaussianRing {
     fn sweep(self, to: Gaussian) -> GaussianSweep {
         // conj(p)·q and p·conj(q) have the same real part and opposite imaginary parts.
         let cross = times(self.c0, to.c1) - times(self.c1, to.c0);
-        GaussianSweep { c0: 0, c1: cross + cross }
+        GaussianSweep {
+            c0: 0,
+            c1: cross + cross,
+        }
     }
 
     fn sweep_coefficient(s: GaussianSweep, k: usize) -> i64 {

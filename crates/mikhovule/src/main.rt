@@ -2,33 +2,84 @@
 mod outline;
 mod report;
 
-use outline::Step;
-use report::describe;
-use report::made;
 use gaussian::Gaussian;
 use gaussian::GaussianPartialEq;
 use gaussian::GaussianRing;
 use gaussian::GaussianSweepGroup;
+use outline::Step;
+use report::describe;
+use report::made;
+use std::error::AnyError;
 use tenfold::Tenfold;
 use tenfold::TenfoldPartialEq;
 use tenfold::TenfoldRing;
 use tenfold::TenfoldSweepGroup;
-use std::error::AnyError;
 
 const CHAIR: [Step; 8] = [
-    Step { label: 0, direction: 0 },
-    Step { label: 0, direction: 0 },
-    Step { label: 0, direction: 1 },
-    Step { label: 0, direction: 2 },
-    Step { label: 0, direction: 1 },
-    Step { label: 0, direction: 2 },
-    Step { label: 0, direction: 3 },
-    Step { label: 0, direction: 3 },
+    Step {
+        label: 0,
+        direction: 0,
+    },
+    Step {
+        label: 0,
+        direction: 0,
+    },
+    Step {
+        label: 0,
+        direction: 1,
+    },
+    Step {
+        label: 0,
+        direction: 2,
+    },
+    Step {
+        label: 0,
+        direction: 1,
+    },
+    Step {
+        label: 0,
+        direction: 2,
+    },
+    Step {
+        label: 0,
+        direction: 3,
+    },
+    Step {
+        label: 0,
+        direction: 3,
+    },
 ];
 
 // Penrose's acute and obtuse triangle.
-const ACUTE: [Step; 3] = [Step { label: 0, direction: 0 }, Step { label: 1, direction: 3 }, Step { label: 0, direction: 6 }];
-const OBTUSE: [Step; 3] = [Step { label: 0, direction: 0 }, Step { label: 1, direction: 4 }, Step { label: 1, direction: 6 }];
+const ACUTE: [Step; 3] = [
+    Step {
+        label: 0,
+        direction: 0,
+    },
+    Step {
+        label: 1,
+        direction: 3,
+    },
+    Step {
+        label: 0,
+        direction: 6,
+    },
+];
+
+const OBTUSE: [Step; 3] = [
+    Step {
+        label: 0,
+        direction: 0,
+    },
+    Step {
+        label: 1,
+        direction: 4,
+    },
+    Step {
+        label: 1,
+        direction: 6,
+    },
+];
 
 fn run(rt: &LibcRuntime) -> Result<(), AnyError> {
     rt.println("The chair, over Z[i]")?;

@@ -49,7 +49,11 @@ fn after<R: Ring>(q: R, lengths: &[R], step: Step) -> Result<R, WalkFault> {
     Ok(q.add(edge)?)
 }
 
-pub(crate) fn walk<R: Ring>(heap: Global, lengths: &[R], steps: &[Step]) -> Result<Walked<R>, WalkFault> {
+pub(crate) fn walk<R: Ring>(
+    heap: Global,
+    lengths: &[R],
+    steps: &[Step],
+) -> Result<Walked<R>, WalkFault> {
     let mut corners = Vec::new(heap);
     let mut total = R::Sweep::zero();
     let mut q = R::zero();

@@ -65,7 +65,12 @@ fn corners<R: Ring>(rt: &LibcRuntime, list: &[R]) -> Result<(), AnyError> {
     Ok(())
 }
 
-pub(crate) fn describe<R: Ring>(rt: &LibcRuntime, name: &str, lengths: &[R], steps: &[Step]) -> Result<(), AnyError> {
+pub(crate) fn describe<R: Ring>(
+    rt: &LibcRuntime,
+    name: &str,
+    lengths: &[R],
+    steps: &[Step],
+) -> Result<(), AnyError> {
     println!(rt, "  {name}")?;
     let walked = match walk(rt.alloc(), lengths, steps) {
         Ok(walked) => walked,

@@ -87,14 +87,14 @@ back-add : (a b : ℤ) → Between (products 2) a → Between (products 2) b →
 back-add a b p q = ap back (ap₂ _+ℤ_ (toZ-ofZ w64 a (two-fit a p)) (toZ-ofZ w64 b (two-fit b q))) ∙ toZ-ofZ w64 (a +ℤ b) (omega (arith, ints))
 
 pub add3 : (a b c : ℤ) → Between (products 2) a → Between (products 2) b → Between (products 2) c →
-  (back (back (back a +ℤ back b) +ℤ back c) ≡ a +ℤ b +ℤ c) × Between (products 6) (back (back (back a +ℤ back b) +ℤ back c))
+    (back (back (back a +ℤ back b) +ℤ back c) ≡ a +ℤ b +ℤ c) × Between (products 6) (back (back (back a +ℤ back b) +ℤ back c))
 add3 a b c p q r =
     let m : Between (products 6) (a +ℤ b +ℤ c) = omega (arith, ints) in
     let e = ap back (ap₂ _+ℤ_ (back-add a b p q) (toZ-ofZ w64 c (two-fit c r))) ∙ toZ-ofZ w64 (a +ℤ b +ℤ c) (omega (arith, ints)) in
     (e, subst (Between (products 6)) (sym e) m)
 
 pub add4 : (a b c d : ℤ) → Between (products 1) a → Between (products 1) b → Between (products 1) c → Between (products 1) d →
-  (back (back (back a +ℤ back b) +ℤ back (back c +ℤ back d)) ≡ a +ℤ b +ℤ (c +ℤ d)) × Between (products 4) (back (back (back a +ℤ back b) +ℤ back (back c +ℤ back d)))
+    (back (back (back a +ℤ back b) +ℤ back (back c +ℤ back d)) ≡ a +ℤ b +ℤ (c +ℤ d)) × Between (products 4) (back (back (back a +ℤ back b) +ℤ back (back c +ℤ back d)))
 add4 a b c d p q r s =
     let m : Between (products 4) (a +ℤ b +ℤ (c +ℤ d)) = omega (arith, ints) in
     let e = ap back (ap₂ _+ℤ_ (back-add a b (twice a p) (twice b q)) (back-add c d (twice c r) (twice d s))) ∙ toZ-ofZ w64 (a +ℤ b +ℤ (c +ℤ d)) (omega (arith, ints)) in
@@ -105,7 +105,7 @@ add4 a b c d p q r s =
 
 -- the coefficients of a sweep, by its two sums of cross products
 pub across : (a b : ℤ) → Between (products 6) a → Between (products 6) b →
-  record { c0 = back (pos 0 +ℤ negℤ (back a)); c1 = back (back a +ℤ back a); c2 = back (back b +ℤ negℤ (back a)); c3 = back (back b +ℤ back a) } ≡ by-crosses _+ℤ_ _*ℤ_ negℤ a b
+    record { c0 = back (pos 0 +ℤ negℤ (back a)); c1 = back (back a +ℤ back a); c2 = back (back b +ℤ negℤ (back a)); c3 = back (back b +ℤ back a) } ≡ by-crosses _+ℤ_ _*ℤ_ negℤ a b
 across a b p q = quad-same _ _ (omega (arith, ints)) (omega (arith, ints)) (omega (arith, ints)) (omega (arith, ints))
 
 -- ---- squares

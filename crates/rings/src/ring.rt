@@ -20,6 +20,7 @@ use crate::group::Group;
 pub trait Ring: Copy + PartialEq<Self> {
     // The ring's n and d. No clause can name a constant of a trait: `order` and `rank` answer them to a proof.
     const N: u32;
+
     const D: usize;
 
     // d coefficients with no bound.

@@ -64,6 +64,21 @@ fn kept(c0: i64, c1: i64, c2: i64, c3: i64) -> Result<Tenfold, RingFault>
     }
 }
 
+// The position with small coefficients.
+fn small(c0: i8, c1: i8, c2: i8, c3: i8) -> Tenfold
+    ensures at0 { λ r. ⌜ r .c0 ≡ c0 ⌝ }
+    ensures at1 { λ r. ⌜ r .c1 ≡ c1 ⌝ }
+    ensures at2 { λ r. ⌜ r .c2 ≡ c2 ⌝ }
+    ensures at3 { λ r. ⌜ r .c3 ≡ c3 ⌝ }
+{
+    Tenfold {
+        c0: i64::from(c0),
+        c1: i64::from(c1),
+        c2: i64::from(c2),
+        c3: i64::from(c3),
+    }
+}
+
 // The coefficient of ζ⁴ in the product, before it is reduced by ζ⁴ = ζ³ - ζ² + ζ - 1.
 fn fourth(x: Tenfold, y: Tenfold) -> i64
     ensures is { λ r. ⌜ r ≡ x .c1 *ℤ y .c3 +ℤ x .c2 *ℤ y .c2 +ℤ x .c3 *ℤ y .c1 ⌝ }
@@ -189,7 +204,12 @@ pub impl Group for TenfoldSweep as TenfoldSweepGroup {
     ghost worth = { λ s. row-total (s .c0 ∷ (s .c1 ∷ (s .c2 ∷ (s .c3 ∷ [])))) };
 
     fn zero() -> TenfoldSweep {
-        TenfoldSweep { c0: 0, c1: 0, c2: 0, c3: 0 }
+        TenfoldSweep {
+            c0: 0,
+            c1: 0,
+            c2: 0,
+            c3: 0,
+        }
     }
 
     fn sum(self, other: TenfoldSweep) -> TenfoldSweep {
@@ -213,9 +233,11 @@ pub impl Group for TenfoldSweep as TenfoldSweepGroup {
 
 pub impl Ring for Tenfold as TenfoldRing {
     const N: u32 = 10;
+
     const D: usize = 4;
 
     type Plain = TenfoldRow;
+
     type Sweep = TenfoldSweep;
 
     ghost exact = { tenfold };
@@ -237,7 +259,12 @@ pub impl Ring for Tenfold as TenfoldRing {
     }
 
     fn make(list: &[i64]) -> Result<Tenfold, RingFault> {
-        kept(listed_or_zero(list, 0), listed_or_zero(list, 1), listed_or_zero(list, 2), listed_or_zero(list, 3))
+        kept(
+            listed_or_zero(list, 0),
+            listed_or_zero(list, 1),
+            listed_or_zero(list, 2),
+            listed_or_zero(list, 3),
+        )
     }
 
     fn from_plain(plain: TenfoldRow) -> Result<Tenfold, RingFault> {
@@ -245,7 +272,12 @@ pub impl Ring for Tenfold as TenfoldRing {
     }
 
     fn plain(self) -> TenfoldRow {
-        TenfoldRow { c0: self.c0, c1: self.c1, c2: self.c2, c3: self.c3 }
+        TenfoldRow {
+            c0: self.c0,
+            c1: self.c1,
+            c2: self.c2,
+            c3: self.c3,
+        }
     }
 
     fn coefficient(self, k: usize) -> i64 {
@@ -257,30 +289,45 @@ pub impl Ring for Tenfold as TenfoldRing {
     }
 
     fn zero() -> Tenfold {
-        Tenfold { c0: 0, c1: 0, c2: 0, c3: 0 }
+        Tenfold {
+            c0: 0,
+            c1: 0,
+            c2: 0,
+            c3: 0,
+        }
     }
 
     fn unit(k: u32) -> Tenfold {
         match k % 10 {
-            0 => Tenfold { c0: 1, c1: 0, c2: 0, c3: 0 },
-            1 => Tenfold { c0: 0, c1: 1, c2: 0, c3: 0 },
-            2 => Tenfold { c0: 0, c1: 0, c2: 1, c3: 0 },
-            3 => Tenfold { c0: 0, c1: 0, c2: 0, c3: 1 },
-            4 => Tenfold { c0: -1, c1: 1, c2: -1, c3: 1 },
-            5 => Tenfold { c0: -1, c1: 0, c2: 0, c3: 0 },
-            6 => Tenfold { c0: 0, c1: -1, c2: 0, c3: 0 },
-            7 => Tenfold { c0: 0, c1: 0, c2: -1, c3: 0 },
-            8 => Tenfold { c0: 0, c1: 0, c2: 0, c3: -1 },
-            _ => Tenfold { c0: 1, c1: -1, c2: 1, c3: -1 },
+            0 => small(1, 0, 0, 0),
+            1 => small(0, 1, 0, 0),
+            2 => small(0, 0, 1, 0),
+            3 => small(0, 0, 0, 1),
+            4 => small(-1, 1, -1, 1),
+            5 => small(-1, 0, 0, 0),
+            6 => small(0, -1, 0, 0),
+            7 => small(0, 0, -1, 0),
+            8 => small(0, 0, 0, -1),
+            _ => small(1, -1, 1, -1),
         }
     }
 
     fn add(self, other: Tenfold) -> Result<Tenfold, RingFault> {
-        kept(self.c0 + other.c0, self.c1 + other.c1, self.c2 + other.c2, self.c3 + other.c3)
+        kept(
+            self.c0 + other.c0,
+            self.c1 + other.c1,
+            self.c2 + other.c2,
+            self.c3 + other.c3,
+        )
     }
 
     fn sub(self, other: Tenfold) -> Result<Tenfold, RingFault> {
-        kept(self.c0 - other.c0, self.c1 - other.c1, self.c2 - other.c2, self.c3 - other.c3)
+        kept(
+            self.c0 - other.c0,
+            self.c1 - other.c1,
+            self.c2 - other.c2,
+            self.c3 - other.c3,
+        )
     }
 
     fn mul(self, other: Tenfold) -> Result<Tenfold, RingFault> {
@@ -295,7 +342,12 @@ pub impl Ring for Tenfold as TenfoldRing {
 
     fn conj(self) -> Result<Tenfold, RingFault> {
         // ζ⁻¹ = 1 - ζ + ζ² - ζ³, ζ⁻² = -ζ³ and ζ⁻³ = -ζ².
-        kept(self.c0 + self.c1, -self.c1, self.c1 - self.c3, -self.c1 - self.c2)
+        kept(
+            self.c0 + self.c1,
+            -self.c1,
+            self.c1 - self.c3,
+            -self.c1 - self.c2,
+        )
     }
 
     fn height(self) -> Result<i8, RingFault> {
@@ -306,7 +358,12 @@ pub impl Ring for Tenfold as TenfoldRing {
         // ζ - ζ⁻¹ is (-1, 2, -1, 1), and ζ² - ζ⁻² and ζ³ - ζ⁻³ are both (0, 0, 1, 1).
         let a = near_cross(self, to);
         let b = far_cross(self, to);
-        TenfoldSweep { c0: -a, c1: a + a, c2: b - a, c3: b + a }
+        TenfoldSweep {
+            c0: -a,
+            c1: a + a,
+            c2: b - a,
+            c3: b + a,
+        }
     }
 
     fn sweep_coefficient(s: TenfoldSweep, k: usize) -> i64 {

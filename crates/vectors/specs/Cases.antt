@@ -37,6 +37,6 @@ fixed-cases =
       found = net gaussian (book-of gaussian one-chair) (laid-outlines gaussian one-chair one-chair-laid) inner-edge
           ∷ net gaussian (book-of gaussian one-chair) (lacking-outlines gaussian one-chair one-chair-laid) inner-edge
           ∷ net gaussian (book-of gaussian one-chair) (seed-outlines gaussian one-chair) inner-edge ∷ [];
-      expected = negsuc 0 ∷ pos 1 ∷ pos 0 ∷ []
+      expected = negsuc 0 ∷ pos 1 ∷ pos 0 ∷ [];
     }
     ∷ []

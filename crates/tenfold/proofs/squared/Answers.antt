@@ -21,5 +21,5 @@ returns c =
       is = e;
       low = subst (λ z. pos 0 ≤ℤ z) (sym e) (square-above u);
       high = subst (λ z. z ≤ℤ pos (16 * (height-bound * height-bound))) (sym e) (square-high u (4 * height-bound) (c .pre));
-      half = λ h. subst (λ z. z ≤ℤ pos (4 * (height-bound * height-bound))) (sym e) (square-high u (2 * height-bound) h)
+      half = λ h. subst (λ z. z ≤ℤ pos (4 * (height-bound * height-bound))) (sym e) (square-high u (2 * height-bound) h);
     }

@@ -20,5 +20,5 @@ returns c =
     record {
       is = e;
       exact = λ p q. e ∙ wrapped-fits w64 (a *ℤ b) (fits (a *ℤ b) (product-between plane-bound plane-bound a b p q));
-      small = λ p q. subst (Between (products 1)) (sym (e ∙ wrapped-fits w64 (a *ℤ b) (fits (a *ℤ b) (product-between plane-bound plane-bound a b p q)))) (product-between plane-bound plane-bound a b p q)
+      small = λ p q. subst (Between (products 1)) (sym (e ∙ wrapped-fits w64 (a *ℤ b) (fits (a *ℤ b) (product-between plane-bound plane-bound a b p q)))) (product-between plane-bound plane-bound a b p q);
     }
