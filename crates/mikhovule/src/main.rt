@@ -1,97 +1,43 @@
-// Walks the outlines of the two example books and tells of each tile its corners, whether it closes, and its total sweep.
-mod outline;
-mod report;
+// Reads a job from standard input and tells it in words. A refused job gives the one line `refused N P`, and status 1.
+mod words;
 
-use gaussian::Gaussian;
-use gaussian::GaussianPartialEq;
-use gaussian::GaussianRing;
-use gaussian::GaussianSweepGroup;
-use outline::Step;
-use report::describe;
-use report::made;
+use faults::TextFault;
+use faults::TextFaultFault;
+use jobs::reading::read;
+use refusals::Fault;
 use std::error::AnyError;
-use tenfold::Tenfold;
-use tenfold::TenfoldPartialEq;
-use tenfold::TenfoldRing;
-use tenfold::TenfoldSweepGroup;
+use std::io::Read;
+use words::tell;
 
-const CHAIR: [Step; 8] = [
-    Step {
-        label: 0,
-        direction: 0,
-    },
-    Step {
-        label: 0,
-        direction: 0,
-    },
-    Step {
-        label: 0,
-        direction: 1,
-    },
-    Step {
-        label: 0,
-        direction: 2,
-    },
-    Step {
-        label: 0,
-        direction: 1,
-    },
-    Step {
-        label: 0,
-        direction: 2,
-    },
-    Step {
-        label: 0,
-        direction: 3,
-    },
-    Step {
-        label: 0,
-        direction: 3,
-    },
-];
+// One byte more than a text may have is enough to refuse it.
+const MOST_READ: u64 = 16385;
 
-// Penrose's acute and obtuse triangle.
-const ACUTE: [Step; 3] = [
-    Step {
-        label: 0,
-        direction: 0,
-    },
-    Step {
-        label: 1,
-        direction: 3,
-    },
-    Step {
-        label: 0,
-        direction: 6,
-    },
-];
+// The text on standard input.
+fn input(rt: &LibcRuntime) -> Result<Vec<u8>, AnyError> {
+    let mut text = Vec::new(rt.alloc());
+    let mut source = rt.stdin().take(MOST_READ);
+    let _ = source.read_to_end(&mut text)?;
+    Ok(text)
+}
 
-const OBTUSE: [Step; 3] = [
-    Step {
-        label: 0,
-        direction: 0,
-    },
-    Step {
-        label: 1,
-        direction: 4,
-    },
-    Step {
-        label: 1,
-        direction: 6,
-    },
-];
-
-fn run(rt: &LibcRuntime) -> Result<(), AnyError> {
-    rt.println("The chair, over Z[i]")?;
-    let unit = made::<Gaussian>(&[1, 0])?;
-    describe(rt, "tile 0", &[unit], &CHAIR)?;
-    rt.println("Penrose's triangles, over Z[ζ10]")?;
-    let golden = made::<Tenfold>(&[1, 0, 1, -1])?;
-    let one = made::<Tenfold>(&[1, 0, 0, 0])?;
-    describe(rt, "tile 0", &[golden, one], &ACUTE)?;
-    describe(rt, "tile 1", &[golden, one], &OBTUSE)
+fn refused(rt: &LibcRuntime, fault: TextFault) -> Result<(), AnyError> {
+    let place = fault.place();
+    match fault.number() {
+        Some(number) => {
+            println!(rt, "refused {number} {place}")?;
+            Err("refused".into())
+        }
+        None => rt.report(Err("out of memory".into())),
+    }
 }
 
 fn main(rt: LibcRuntime) -> Result<(), AnyError> {
-    rt.report(run(&rt))
+    let text = match input(&rt) {
+        Ok(text) => text,
+        Err(error) => return rt.report(Err(error)),
+    };
+    match read(rt.alloc(), text.as_slice()) {
+        Ok(job) => rt.report(tell(&rt, &job)),
+        Err(fault) => refused(&rt, fault),
+    }
 }

@@ -3,6 +3,7 @@ ghost use Rattle.vectors.specs.Cases.{EveryCaseHolds, fixed-cases};
 
 #[cfg(test)]
 mod ring_cases;
+mod texts;
 
 // Every case on the list of fixed cases holds.
 pub fn fixed_cases_hold() -> u8

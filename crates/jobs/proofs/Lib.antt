@@ -1,0 +1,13 @@
+pub mod Decodes
+pub mod Series
+pub mod Adds
+pub mod Shapes
+pub mod Runs
+pub mod Lates
+pub mod Verdicts
+pub mod Widths
+pub mod Picking
+pub mod Halts
+pub mod Writes
+pub mod Texts
+pub mod Wholes

@@ -1,0 +1,4 @@
+pub mod Cutting
+pub mod Decimal
+pub mod Fronted
+pub mod Sequence
