@@ -32,7 +32,7 @@ fn tell_labels(rt: &LibcRuntime, job: &Job) -> Result<(), AnyError> {
         let kind = if label.arrowed { "arrowed" } else { "plain" };
         let length = element(rt.alloc(), label.length.as_slice())?;
         let parts = job.subdivision(i).unwrap_or(&[]).len();
-        println!(rt, "label {i}: {kind}, of length {length}, inflated to {parts} edges")?;
+        println!(rt, "label {i}: {kind}, length {length}, parts when inflated: {parts}")?;
     }
     Ok(())
 }
@@ -41,7 +41,7 @@ fn tell_tiles(rt: &LibcRuntime, tiles: &[Tile]) -> Result<(), AnyError> {
     for (i, tile) in tiles.iter().enumerate() {
         let steps = tile.outline.len();
         let children = tile.children.len();
-        println!(rt, "tile {i}: an outline of {steps} steps, cut into {children} tiles")?;
+        println!(rt, "tile {i}: steps {steps}, children {children}")?;
     }
     Ok(())
 }
