@@ -32,7 +32,10 @@ fn tell_labels(rt: &LibcRuntime, job: &Job) -> Result<(), AnyError> {
         let kind = if label.arrowed { "arrowed" } else { "plain" };
         let length = element(rt.alloc(), label.length.as_slice())?;
         let parts = job.subdivision(i).unwrap_or(&[]).len();
-        println!(rt, "label {i}: {kind}, length {length}, parts when inflated: {parts}")?;
+        println!(
+            rt,
+            "label {i}: {kind}, length {length}, parts when inflated: {parts}"
+        )?;
     }
     Ok(())
 }
@@ -52,7 +55,10 @@ fn tell_seeds(rt: &LibcRuntime, seeds: &[Placed]) -> Result<(), AnyError> {
         let turn = seed.turn;
         let mirrored = if seed.mirrored { "mirrored, " } else { "" };
         let place = element(rt.alloc(), seed.place.as_slice())?;
-        println!(rt, "seed {i}: tile {tile}, {mirrored}turned by {turn}, at {place}")?;
+        println!(
+            rt,
+            "seed {i}: tile {tile}, {mirrored}turned by {turn}, at {place}"
+        )?;
     }
     Ok(())
 }

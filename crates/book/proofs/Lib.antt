@@ -1,0 +1,12 @@
+pub mod Tallying
+pub mod Sides
+pub mod Balances
+pub mod Backwards
+pub mod Lengthwise
+pub mod Short
+pub mod Tests
+pub mod Splitting
+pub mod Added
+pub mod Rounds
+pub mod Closing
+pub mod Judging

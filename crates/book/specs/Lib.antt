@@ -1,0 +1,3 @@
+pub mod Faults
+pub mod Differences
+pub mod Points
