@@ -1,6 +1,5 @@
 // Why a book is refused.
 ghost use mathlib.Core.Path.{_≡_};
-ghost use Rattle.edges.specs.declared.fault.ChainFault.{ChainFault};
 ghost use Rattle.book.specs.Faults.{book-refusal, passed-on};
 ghost use Rattle.book.specs.declared.fault.BookFault.the-variants.{Ring};
 use edges::fault::ChainFault;
