@@ -3,7 +3,7 @@
 
 usage: python3 tools/respell.py [FOLDER]      once, at the top of a checkout, after the kit's port.py
 
-A name is taken where a file of specs/ or proofs/ declares it with a hyphen in it, and it is no name of std and no name
+A name is taken where a file of specs/ or proofs/ declares it with a hyphen in it, and it is no name of the kit's modules and no name
 that the check makes (a goal, or what a goal's context offers). Functions of src/, strings and comments keep their words.
 Where the new spelling is a function of src/ already, `_lem` is put behind it. Names that fall together stop the script.
 """
@@ -15,6 +15,9 @@ root = sys.argv[1] if len(sys.argv) > 1 else "."
 SPLIT = r"[\s(){};,.\"«»]"
 TOKEN = re.compile(r"(?:(?<=" + SPLIT + r")|^)([^\s(){};,.\"«»]*-[^\s(){};,.\"«»]+)(?=" + SPLIT + r"|$)", re.M)
 DECLARED = re.compile(r"\s*(?:(?:unfoldable|abbrev|data|record|pub)\s+)*([^\s:(){}]+)(?:\s+[^:]*)?\s+:\s(.*)")
+
+
+OWN = r"Rattle\.(" + "|".join(sorted(os.listdir(os.path.join(root, "crates")))) + r")\."
 
 
 def files(*endings):
@@ -40,8 +43,9 @@ def code_of(line, path):
 declared, std, made, words = {}, set(), set(), set()
 for path in files(".antt", ".rt"):
     text = read(path)
-    for found in re.finditer(r"use Rattle\.(?:std|core)[^\s{]*\.\{([^}]*)\}", text):
-        std |= {n.strip().split(" as ")[0] for n in found.group(1).split(",")}
+    for found in re.finditer(r"use ([^\s{]*)\.\{([^}]*)\}", text):
+        if not re.match(OWN, found.group(1)):
+            std |= {n.strip().split(" as ")[0] for n in found.group(2).split(",")}
     made |= set(re.findall(r"\b(?:goal|c)\.([^\s(){};,.]+)", text))
     for line in text.split("\n"):
         code = code_of(line, path)[0]

@@ -70,17 +70,17 @@ square_sum a b =
     (plus (plus (times (v 0) (v 0)) (times (v 1) (v 1))) (plus (times (v 0) (v 1)) (times (v 0) (v 1)))) tt
 
 -- orders of signed numbers, as facts of tests and sums
-lt_true : (x y : ℤ) → lt_z x y ≡ true → x <ℤ y
-lt_true x y e = omega (arith, ints)
+lt-true : (x y : ℤ) → lt_z x y ≡ true → x <ℤ y
+lt-true x y e = omega (arith, ints)
 
-true_lt : (x y : ℤ) → x <ℤ y → lt_z x y ≡ true
-true_lt x y e = sym (omega (arith, ints))
+true-lt : (x y : ℤ) → x <ℤ y → lt_z x y ≡ true
+true-lt x y e = sym (omega (arith, ints))
 
-lt_false : (x y : ℤ) → lt_z x y ≡ false → y ≤ℤ x
-lt_false x y e = omega (arith, ints)
+lt-false : (x y : ℤ) → lt_z x y ≡ false → y ≤ℤ x
+lt-false x y e = omega (arith, ints)
 
-false_lt : (x y : ℤ) → y ≤ℤ x → lt_z x y ≡ false
-false_lt x y e = sym (omega (arith, ints))
+false-lt : (x y : ℤ) → y ≤ℤ x → lt_z x y ≡ false
+false-lt x y e = sym (omega (arith, ints))
 
 add_above : (x y : ℤ) → pos 0 <ℤ x → pos 0 <ℤ y → pos 0 <ℤ (x +ℤ y)
 add_above x y p q = omega (arith, ints)
@@ -170,11 +170,11 @@ module _ (k : ℕ) where
 
   above_sum : (w : Bool) (u b t c : ℤ) → Above w u b → Above w t c → Above w (u +ℤ t) (b +ℤ c)
   above_sum true u b t c h g =
-      let m = wide_sum u b t c h.1 g.1 (lt_true _ _ h.0) (lt_true _ _ g.0) in
-      (true_lt _ _ m, add_above u t h.1 g.1)
+      let m = wide_sum u b t c h.1 g.1 (lt-true _ _ h.0) (lt-true _ _ g.0) in
+      (true-lt _ _ m, add_above u t h.1 g.1)
   above_sum false u b t c h g =
-      let m = narrow_sum u b t c h.1 g.1 (lt_false _ _ h.0) (lt_false _ _ g.0) in
-      (false_lt _ _ m, add_above b c h.1 g.1)
+      let m = narrow_sum u b t c h.1 g.1 (lt-false _ _ h.0) (lt-false _ _ g.0) in
+      (false-lt _ _ m, add_above b c h.1 g.1)
 
   above_surd : (u b : ℤ) (w : Bool) → Above w u b → surd_sign k u b ≡ pos 1
   above_surd u b true h = ap (λ t. cond t (sign u) (sign b)) h.0 ∙ sign_above u h.1

@@ -1,7 +1,7 @@
 -- Sums and products of coefficients, as the machine works them out.
 use Rattle.std.proofs.Common.{◌≡◌, ℕ, ◌+◌, ◌-◌, ◌*◌, ◌%◌, ◌<◌, ◌≤◌, Bool, ℤ, pos, negsuc, ◌+ℤ◌, ◌*ℤ◌, neg_ℤ, nat_abs, ◌≤ℤ◌, Result, sym, refl, ap, ◌∙◌, subst, ap₂, mul-le-mul, arith, lit≤, w64, SFits, to_z, of_z}
 use lib.Signed.{lt_z}
-use borrow.Author.Differences.{ints, fits_out, same_out, Apart-out, lt_T, le_T, lt_not, le_not, lt_true, lt_false, le-true, le-false, true_lt, false_lt, true-le, false-le, not_negative_out, lt_out, le_out, fits_in, same_in, lt_in, le_in, below_in, at_most_in, not_negative_in, true_is_lt, false_is_lt, true_is_le, false_is_le, sum_is_lem, neg_is, abs_is, mag_is, back_is, small_is, read_fits, bits_is}
+use borrow.Author.Differences.{ints, fits_out, same_out, Apart-out, lt_T, le_T, lt_not, le_not, lt-true, lt-false, le-true, le-false, true-lt, false-lt, true-le, false-le, not_negative_out, lt_out, le_out, fits_in, same_in, lt_in, le_in, below_in, at_most_in, not_negative_in, true_is_lt, false_is_lt, true_is_le, false_is_le, sum_is_lem, neg_is, abs_is, mag_is, back_is, small_is, read_fits, bits_is}
 use Rattle.std.specs.Int.{int_wrap}
 use Rattle.std.proofs.lemmas.Int.{to_z-of_z, wrapping_add_is, wrapping_sub_is, int_wrap_fits}
 use Rattle.exact.specs.Cyclotomic.{Cyclotomic}
@@ -18,7 +18,7 @@ use Rattle.rings.specs.Answers.{Exactly, HeightOf}
 use Rattle.rings.specs.declared.fault.RingFault.{RingFault}
 
 -- signed numbers for `omega`, with products left whole
-pub ruleset linear = (fits_out, same_out, Apart-out, lt_T, le_T, lt_not, le_not, lt_true, lt_false, le-true, le-false, true_lt, false_lt, true-le, false-le, not_negative_out, lt_out, le_out, fits_in, same_in, lt_in, le_in, below_in, at_most_in, not_negative_in, true_is_lt, false_is_lt, true_is_le, false_is_le, sum_is_lem, neg_is, abs_is, mag_is, back_is, small_is, read_fits, bits_is)
+pub ruleset linear = (fits_out, same_out, Apart-out, lt_T, le_T, lt_not, le_not, lt-true, lt-false, le-true, le-false, true-lt, false-lt, true-le, false-le, not_negative_out, lt_out, le_out, fits_in, same_in, lt_in, le_in, below_in, at_most_in, not_negative_in, true_is_lt, false_is_lt, true_is_le, false_is_le, sum_is_lem, neg_is, abs_is, mag_is, back_is, small_is, read_fits, bits_is)
 
 -- ---- answers, at an equal element
 pub recast : {S : Type 0} {E : Cyclotomic} {value : S → E.Elem} {r : Result S RingFault} {x y : E.Elem} → Exactly E value r x → x ≡ y → Exactly E value r y
