@@ -5,7 +5,8 @@ usage: python3 tools/respell.py [FOLDER]      once, at the top of a checkout, af
 
 A name is taken where a file of specs/ or proofs/ declares it with a hyphen in it, and it is no name of the kit's modules and no name
 that the check makes (a goal, or what a goal's context offers). Functions of src/, strings and comments keep their words.
-Where the new spelling is a function of src/ already, `_lem` is put behind it. Names that fall together stop the script.
+Where the new spelling is a ghost member of a trait already, `_lem` is put behind it. Names that fall together stop the
+script, but for a function of src/, which has a module of its own.
 """
 import os
 import re
@@ -40,12 +41,14 @@ def code_of(line, path):
     return (line[: at.start()], line[at.start() :]) if at else (line, "")
 
 
-declared, std, made, words = {}, set(), set(), set()
+declared, std, made, words, functions = {}, set(), set(), set(), set()
 for path in files(".antt", ".rt"):
     text = read(path)
     for found in re.finditer(r"use ([^\s{]*)\.\{([^}]*)\}", text):
         if not re.match(OWN, found.group(1)):
             std |= {n.strip().split(" as ")[0] for n in found.group(2).split(",")}
+    if path.endswith(".rt"):
+        functions |= set(re.split(r"\W", text))
     made |= set(re.findall(r"\b(?:goal|c)\.([^\s(){};,.]+)", text))
     for line in text.split("\n"):
         code = code_of(line, path)[0]
@@ -55,15 +58,16 @@ for path in files(".antt", ".rt"):
             declared.setdefault(found.group(1), path)
 
 # two names that the check made too, of functions of src/, take that function's spelling
+MEMBERS = {"sweeps_small"}
 FORCED = {"half-turn": "half_turn", "length-of": "length_of"}
 table = {name: new for name, new in FORCED.items() if name in declared}
 for name, path in sorted(declared.items()):
     if name in FORCED or name in std or name in made or name.startswith(("invariant-", "decreases-", "returns-", "ghost-")):
         continue
     new = name.replace("-", "_")
-    if new in words:
+    if new in MEMBERS:
         new += "_lem"
-    if new in words or new in table.values():
+    if new in table.values() or (new in words and new not in functions):
         sys.exit(f"respell: {name} ({path}) falls together with another name as {new}")
     table[name] = new
 

@@ -19,7 +19,7 @@ use Rattle.book.specs.declared.fault.BookFault.TheVariants.{Factor, Length, Subd
 use Rattle.book.specs.Faults.{passed_on}
 use Rattle.book.specs.Differences.{UnbalancedAt}
 use Rattle.book.specs.Points.{Point, Holds, Kept, Passed, Refuses, FirstFault, Judged, Rejects, WorkedOnThePlane, points, length_points, subdivision_points, outline_points, children_points}
-use Rattle.book.specs.Points.Point.{the_factor, length_of, subdivision_of, outline_of_lem, children_of}
+use Rattle.book.specs.Points.Point.{the_factor, length_of, subdivision_of, outline_of, children_of}
 use Rattle.book.proofs.Balances.{no_difference}
 
 -- what holds of every number below n holds of all that they are numbers of, and the other way
@@ -84,10 +84,10 @@ module _ (E : Cyclotomic) (B : Book E) {S : Type 0} (v : S → E.Elem) where
       let a2 = all_back P (length_points E B) (subdivision_points E B ++ (outline_points E B ++ children_points E B)) a1 in
       let a3 = all_back P (subdivision_points E B) (outline_points E B ++ children_points E B) a2 in (
         record {
-          factor_fits_lem = a.0.1;
+          factor_fits = a.0.1;
           lengths_fit = λ e h. (each_below P length_of (length B.labels) e h (all_front P (length_points E B) _ a1)).1;
           subdivisions_fit = λ e h. (each_below P subdivision_of (length B.labels) e h (all_front P (subdivision_points E B) _ a2)).1;
-          outlines_close = λ t h. (each_below P outline_of_lem (length B.tiles) t h (all_front P (outline_points E B) _ a3)).1;
+          outlines_close = λ t h. (each_below P outline_of (length B.tiles) t h (all_front P (outline_points E B) _ a3)).1;
           children_balance = λ t h. (each_below P children_of (length B.tiles) t h (all_back P (outline_points E B) _ a3)).1;
         },
         kept (points E B) a,
@@ -101,10 +101,10 @@ module _ (E : Cyclotomic) (B : Book E) {S : Type 0} (v : S → E.Elem) where
   unfolding points
   all_hold a =
       let H = Holds E B in (
-        a.factor_fits_lem,
+        a.factor_fits,
         all_append H (length_points E B) _ (all_below H length_of (length B.labels) a.lengths_fit)
             (all_append H (subdivision_points E B) _ (all_below H subdivision_of (length B.labels) a.subdivisions_fit)
-            (all_append H (outline_points E B) _ (all_below H outline_of_lem (length B.tiles) a.outlines_close) (all_below H children_of (length B.tiles) a.children_balance))),
+            (all_append H (outline_points E B) _ (all_below H outline_of (length B.tiles) a.outlines_close) (all_below H children_of (length B.tiles) a.children_balance))),
       )
 
   pub rejected : (f : BookFault S) → FirstFault E B v (points E B) f → Rejects E B v f

@@ -29,7 +29,7 @@ module _ (E : Cyclotomic) (B : Book E) (steps : List Step) where
     pub small : Within (i * sweep_bound) (E.list done)
     pub rest : E.add done (sweep_through E q (corners E B (map step_of (drop i steps)) q)) ≡ whole_sweep
     pub ends : walk_end E B (map step_of (drop i steps)) q ≡ walk_end E B (map step_of steps) E.zero
-    pub in_range_lem : i ≤ length steps
+    pub in_range : i ≤ length steps
     pub kept_rest : KeptWalk E B (map step_of steps) E.zero → KeptWalk E B (map step_of (drop i steps)) q
     pub kept_all : KeptWalk E B (map step_of (drop i steps)) q → KeptWalk E B (map step_of steps) E.zero
 
@@ -48,7 +48,7 @@ module _ (E : Cyclotomic) (B : Book E) (steps : List Step) where
       small = within_wider 0 (0 * sweep_bound) _ (omega arith) (zero_within E L);
       rest = L.ring.add_comm _ _ ∙ L.ring.add-zero _;
       ends = refl;
-      in_range_lem = omega arith;
+      in_range = omega arith;
       kept_rest = λ k. k;
       kept_all = λ k. k;
     }
@@ -76,7 +76,7 @@ module _ (E : Cyclotomic) (B : Book E) (steps : List Step) where
           small = within_wider (i * sweep_bound + sweep_bound) ((i + 1) * sweep_bound) _ (omega arith) (sum_within E L (i * sweep_bound) sweep_bound s.done (sweep E q next) s.small w);
           rest = L.ring.add_assoc _ _ _ ∙ ap (λ l. E.add s.done (sweep_through E q l)) (sym (corners_more E B steps i d q h)) ∙ s.rest;
           ends = sym (walk_end_more i d q h) ∙ s.ends;
-          in_range_lem = omega arith;
+          in_range = omega arith;
           kept_rest = λ a. (kept_more E B steps i d q h (s.kept_rest a)).1;
           kept_all = λ a. s.kept_all (kept_back E B steps i d q h k a);
         }
@@ -96,7 +96,7 @@ module _ (E : Cyclotomic) (B : Book E) (steps : List Step) where
         ((q ≡ walk_end E B (map step_of steps) E.zero) × (t ≡ total_of E whole_sweep) × Within (length steps * sweep_bound) (E.list whole_sweep)) × KeptWalk E B (map step_of steps) E.zero
     all_round i q t h s =
         let e = swept i q t h s in
-        let n : i ≡ length steps = omega (arith, s.in_range_lem) in (
+        let n : i ≡ length steps = omega (arith, s.in_range) in (
           (sym (walk_end_none i q h) ∙ s.ends, s.counted ∙ ap (total_of E) e, subst (λ i. Within (i * sweep_bound) (E.list whole_sweep)) n (subst (λ z. Within (i * sweep_bound) (E.list z)) e s.small)),
           s.kept_all (kept_none E B steps i q h),
         )

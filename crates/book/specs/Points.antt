@@ -23,7 +23,7 @@ pub data Point : Type 0 where
   the_factor : Point
   length_of : ℕ → Point
   subdivision_of : ℕ → Point
-  outline_of_lem : ℕ → Point
+  outline_of : ℕ → Point
   children_of : ℕ → Point
 
 module _ (E : Cyclotomic) (B : Book E) where
@@ -35,7 +35,7 @@ module _ (E : Cyclotomic) (B : Book E) where
   subdivision_points = map subdivision_of (range_with_len 0 (length B.labels))
 
   abbrev pub outline_points : List Point
-  outline_points = map outline_of_lem (range_with_len 0 (length B.tiles))
+  outline_points = map outline_of (range_with_len 0 (length B.tiles))
 
   abbrev pub children_points : List Point
   children_points = map children_of (range_with_len 0 (length B.tiles))
@@ -48,7 +48,7 @@ module _ (E : Cyclotomic) (B : Book E) where
   Holds the_factor = FactorAboveOne E B
   Holds (length_of e) = LengthAboveZero E B e
   Holds (subdivision_of e) = SubdivisionFits E B e
-  Holds (outline_of_lem t) = OutlineCloses E B t
+  Holds (outline_of t) = OutlineCloses E B t
   Holds (children_of t) = ChildrenBalance E B t
 
   -- ---- the values that are worked out there, and that they are on the plane
@@ -80,14 +80,14 @@ module _ (E : Cyclotomic) (B : Book E) where
     pub children : All (KeptPlacedOutline E B) (tile_at B t).children
     pub corners : KeptOutline E B t
     pub inflated : KeptInflated E B (outline E B t)
-    pub children_forms_lem : KeptForms E B (outlines E B (tile_at B t).children)
-    pub inflated_forms_lem : KeptForms E B (inflate E B (outline E B t))
+    pub children_forms : KeptForms E B (outlines E B (tile_at B t).children)
+    pub inflated_forms : KeptForms E B (inflate E B (outline E B t))
 
   abbrev pub Kept : Point → Type 0
   Kept the_factor = KeptFactor
   Kept (length_of e) = KeptLength e
   Kept (subdivision_of e) = KeptSubdivision e
-  Kept (outline_of_lem t) = KeptRound t
+  Kept (outline_of t) = KeptRound t
   Kept (children_of t) = KeptBalance t
 
   -- a point is passed where every value on the way is on the plane and what has to hold holds
@@ -104,7 +104,7 @@ module _ (E : Cyclotomic) (B : Book E) where
     Refuses p (Factor count) = (p ≡ the_factor) × (count ≡ length B.labels) × (Holds p → ⊥)
     Refuses p (Length e) = (p ≡ length_of e) × (Holds p → ⊥)
     Refuses p (Subdivision e) = (p ≡ subdivision_of e) × (Holds p → ⊥)
-    Refuses p (Outline t) = (p ≡ outline_of_lem t) × (Holds p → ⊥)
+    Refuses p (Outline t) = (p ≡ outline_of t) × (Holds p → ⊥)
     Refuses p (Unbalanced t d) = (p ≡ children_of t) × UnbalancedAt E B t (edge_view E value d.edge) d.amount
     Refuses p (Ring f) = (f ≡ OffPlane) × (Kept p → ⊥)
     Refuses p Memory = Unit {0}

@@ -25,4 +25,4 @@ module _ (E : Cyclotomic) (L : CyclotomicLaws E) (B : Book E) (A : Accepted E B)
 
   -- a placed tile's children have the net counts of its outline inflated once
   pub family_balances : (p : Placement E) → SameNet E B (outlines E B (children_of E B p)) (inflate E B (placed_outline E B p))
-  family_balances p = placing.children_same E L B real A.factor_fits_lem.real p (lookups.balance_everywhere E L B A.children_balance p.tile)
+  family_balances p = placing.children_same E L B real A.factor_fits.real p (lookups.balance_everywhere E L B A.children_balance p.tile)

@@ -13,7 +13,7 @@ use Rattle.chains.specs.Edges.{Edge, Chain, net, SameNet, ReadsEdges}
 use Rattle.chains.specs.Inflation.{subdivided, inflate, inflated}
 use Rattle.chains.specs.Placements.{child_of, children_of, placed_outline, outlines}
 use Rattle.chains.specs.Accepted.{Accepted}
-use Rattle.chains.specs.Addresses.{Address, level, seed_address, child_address, no_entry, child_entries, child_count, node_tile, has_node, seeds_from, children_from, child_placement_lem, placement_below, seed_placement, node_placement}
+use Rattle.chains.specs.Addresses.{Address, level, seed_address, child_address, no_entry, child_entries, child_count, node_tile, has_node, seeds_from, children_from, child_placement, placement_below, seed_placement, node_placement}
 use Rattle.chains.specs.Frontiers.{Frontier, start, Move, expand, lay, set_aside, Reached, at_start, then, OfTheJob, node_outline, grown_outline, laid_outlines, lacking_outlines, seed_outlines, Conserved}
 use Rattle.chains.proofs.Lists.{flatMap_append, flatMap_map, flatMap_same, by_places, all_append, all_front, all_back}
 use Rattle.chains.proofs.Edges as edges
@@ -55,7 +55,7 @@ module _ (E : Cyclotomic) (L : CyclotomicLaws E) (N : JobNumbers) where
       ∙ inflated_outlines E (book_of E N) N.depth (map (placement_of E) N.seeds)
 
   child_grown : (a : Address) (k i : ℕ) → N.depth - level a ≡ suc k →
-      grown_outline E N (child_address a i) ≡ inflated E (book_of E N) k (placed_outline E (book_of E N) (child_placement_lem E N (node_placement E N a) i))
+      grown_outline E N (child_address a i) ≡ inflated E (book_of E N) k (placed_outline E (book_of E N) (child_placement E N (node_placement E N a) i))
   unfolding grown_outline node_outline
   child_grown a k i h = ap₂ (λ m p. inflated E (book_of E N) m (placed_outline E (book_of E N) p)) e (nodes.node_placement_child E N a i)
     where
@@ -76,7 +76,7 @@ module _ (E : Cyclotomic) (L : CyclotomicLaws E) (N : JobNumbers) where
   -- a node's children, each inflated by what it lacks, as the children of the node's placement
   children_grown : (a : Address) (k : ℕ) → N.depth - level a ≡ suc k →
       flat_map (grown_outline E N) (children_from N a 0) ≡ inflated E (book_of E N) k (outlines E (book_of E N) (children_of E (book_of E N) (node_placement E N a)))
-  unfolding children_from child_count child_placement_lem
+  unfolding children_from child_count child_placement
   children_grown a k e =
       flatMap_map _ (child_address a) (range_with_len 0 (length (child_entries N (node_tile N a)) - 0))
       ∙ ap (λ m. flat_map (λ i. grown_outline E N (child_address a i)) (range_with_len 0 m)) less

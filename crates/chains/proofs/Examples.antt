@@ -13,16 +13,16 @@ use Rattle.chains.specs.Counts.{scaled, tally}
 use Rattle.chains.specs.Books.{Book, book_of, seeds_of, tile_at}
 use Rattle.chains.specs.Edges.{Chain, plus_turn, minus_turn, edge, same_edge, along, reversed, canonical, net, step_count, walk, corners, walk_end}
 use Rattle.chains.specs.Inflation.{stepped, subdivided, inflate, inflated}
-use Rattle.chains.specs.Placements.{image, heading, signed, placed_edge_lem, placed_entry, placed, stretched, child_of, children_of, outline, placed_outline, outlines}
+use Rattle.chains.specs.Placements.{image, heading, signed, placed_edge, placed_entry, placed, stretched, child_of, children_of, outline, placed_outline, outlines}
 use Rattle.chains.specs.Accepted.{lengths, turned_part, backwards, total_sweep, FactorAboveOne, LengthAboveZero, SubdivisionFits, OutlineCloses, ChildrenBalance, Accepted}
-use Rattle.chains.specs.Addresses.{child_count, child_tile, seed_tile, tile_below, node_tile, seeds_from, children_from, child_placement_lem, placement_below, seed_placement, node_placement}
+use Rattle.chains.specs.Addresses.{child_count, child_tile, seed_tile, tile_below, node_tile, seeds_from, children_from, child_placement, placement_below, seed_placement, node_placement}
 use Rattle.chains.specs.Frontiers.{Reached, expand, lay, set_aside, at_start, then, node_outline, grown_outline, laid_outlines, lacking_outlines, seed_outlines}
 use Rattle.chains.specs.Examples.{chair, penrose, one_chair, one_chair_laid, chair_child, OneChairLaidCounts, OutlineSweeps, WrongMarkShows, EachConditionRefuses}
 use Rattle.chains.proofs.Occurring.{suffices}
 
 -- every definition that a computed case goes through
 unfoldable pub opened : ℕ
-unfolding scaled tally book_of seeds_of plus_turn minus_turn edge same_edge along reversed canonical net step_count walk corners walk_end stepped subdivided inflate inflated image heading signed placed_edge_lem placed_entry placed stretched child_of children_of outline placed_outline outlines lengths turned_part backwards total_sweep child_count child_tile seed_tile tile_below node_tile seeds_from children_from child_placement_lem placement_below seed_placement node_placement node_outline grown_outline laid_outlines lacking_outlines seed_outlines flat_map
+unfolding scaled tally book_of seeds_of plus_turn minus_turn edge same_edge along reversed canonical net step_count walk corners walk_end stepped subdivided inflate inflated image heading signed placed_edge placed_entry placed stretched child_of children_of outline placed_outline outlines lengths turned_part backwards total_sweep child_count child_tile seed_tile tile_below node_tile seeds_from children_from child_placement placement_below seed_placement node_placement node_outline grown_outline laid_outlines lacking_outlines seed_outlines flat_map
 opened = 0
 
 -- equal net counts at each edge of zs
@@ -77,7 +77,7 @@ module _ (depth : ℕ) (seeds : List PlacedNumbers) where
   pub chair_accepted : Accepted gaussian (book_of gaussian (chair depth seeds))
   unfolding book_of
   chair_accepted = record {
-    factor_fits_lem = chair_factor;
+    factor_fits = chair_factor;
     lengths_fit = just_zero (LengthAboveZero gaussian (book_of gaussian (chair depth seeds))) chair_length;
     subdivisions_fit = just_zero (SubdivisionFits gaussian (book_of gaussian (chair depth seeds))) chair_subdivision;
     outlines_close = just_zero (OutlineCloses gaussian (book_of gaussian (chair depth seeds))) chair_closes;
@@ -125,7 +125,7 @@ module _ (depth : ℕ) (seeds : List PlacedNumbers) where
   pub penrose_accepted : Accepted tenfold (book_of tenfold (penrose depth seeds))
   unfolding book_of
   penrose_accepted = record {
-    factor_fits_lem = penrose_factor;
+    factor_fits = penrose_factor;
     lengths_fit = zero_and_one (LengthAboveZero tenfold (book_of tenfold (penrose depth seeds))) penrose_length_0 penrose_length_1;
     subdivisions_fit = zero_and_one (SubdivisionFits tenfold (book_of tenfold (penrose depth seeds))) penrose_subdivision_0 penrose_subdivision_1;
     outlines_close = zero_and_one (OutlineCloses tenfold (book_of tenfold (penrose depth seeds))) penrose_closes_0 penrose_closes_1;

@@ -5,7 +5,7 @@ use Rattle.exact.specs.Cyclotomic.{Cyclotomic, CyclotomicLaws, power, half}
 use Rattle.chains.specs.Counts.{Counted}
 use Rattle.chains.specs.Books.{Book, Placement}
 use Rattle.chains.specs.Edges.{Edge, Chain}
-use Rattle.chains.specs.Placements.{image, heading, signed, placed_edge_lem, placed_entry, placed, stretched, child_of}
+use Rattle.chains.specs.Placements.{image, heading, signed, placed_edge, placed_entry, placed, stretched, child_of}
 use Rattle.chains.proofs.Multiples as groups
 use Rattle.chains.proofs.Turns as turns
 use Rattle.chains.proofs.Edges.{edge_path, counted_path}
@@ -94,19 +94,19 @@ module _ (E : Cyclotomic) (L : CyclotomicLaws E) (B : Book E) where
   mirror_twice true false z = refl
   mirror_twice true true z = L.conj_conj z
 
-  image_of_lem : (p : Placement E) (z : E.Elem) → image E p z ≡ E.add p.place (E.mul (power E p.turn) (cond p.mirrored (E.conj z) z))
+  image_of : (p : Placement E) (z : E.Elem) → image E p z ≡ E.add p.place (E.mul (power E p.turn) (cond p.mirrored (E.conj z) z))
   unfolding image
-  image_of_lem p z = refl
+  image_of p z = refl
 
   pub image_child : (p c : Placement E) (z : E.Elem) → image E (child_of E B p c) z ≡ image E (stretched E B p) (image E c z)
   unfolding child_of stretched
-  image_child p c z = image_of_lem (child_of E B p c) z
-      ∙ sym (ap (image E (stretched E B p)) (image_of_lem c z)
+  image_child p c z = image_of (child_of E B p c) z
+      ∙ sym (ap (image E (stretched E B p)) (image_of c z)
       ∙ image_turned E L p.tile p.turn p.mirrored (E.mul B.factor p.place) c.place c.turn (cond c.mirrored (E.conj z) z)
       ∙ ap₂ (λ j w. E.add (image E (stretched E B p) c.place) (E.mul (power E j) w)) (heading_stretched p c.turn) (mirror_twice p.mirrored c.mirrored z))
 
   pub entry_child : (p c : Placement E) (x : Counted (Edge E)) → placed_entry E (child_of E B p c) x ≡ placed_entry E (stretched E B p) (placed_entry E c x)
-  unfolding placed_entry placed_edge_lem
+  unfolding placed_entry placed_edge
   entry_child p c x = counted_path
       (edge_path refl (heading_child p.tile p.turn p.mirrored p.place c.tile c.turn c.mirrored c.place x.what.direction ∙ sym (heading_stretched p _)) (image_child p c x.what.start))
       (sign_child p.tile p.turn p.mirrored p.place c.tile c.turn c.mirrored c.place x.count ∙ sym (sign_of_stretched p _))
@@ -117,11 +117,11 @@ module _ (E : Cyclotomic) (L : CyclotomicLaws E) (B : Book E) where
   placed_child p c (x ∷ xs) = ap₂ ◌∷◌ (entry_child p c x) (placed_child p c xs)
 
   -- a child's placement is the composition of its own with its parent's
-  pub children_compose_lem : (p c : Placement E) →
+  pub children_compose : (p c : Placement E) →
       ((z : E.Elem) → image E (child_of E B p c) z ≡ image E (stretched E B p) (image E c z))
       × ((j : ℕ) → heading E (child_of E B p c) j ≡ heading E p (heading E c j))
       × ((xs : Chain E) → placed E (child_of E B p c) xs ≡ placed E (stretched E B p) (placed E c xs))
-  children_compose_lem p c = (
+  children_compose p c = (
     image_child p c,
     heading_child p.tile p.turn p.mirrored p.place c.tile c.turn c.mirrored c.place,
     placed_child p c,

@@ -7,7 +7,7 @@ use Rattle.exact.specs.Cyclotomic.{Cyclotomic}
 use Rattle.exact.specs.JobNumbers.{LabelNumbers, JobNumbers}
 use Rattle.chains.specs.Books.{Placement, placement_of, label_of, tile_of, label_at, tile_at, book_of, seeds_of}
 use Rattle.chains.specs.Placements.{child_of, children_of}
-use Rattle.chains.specs.Addresses.{Address, level, seed_address, child_address, no_entry, child_entries, child_count, child_tile, seed_tile, tile_below, leads_down, node_tile, has_node, seeds_from, children_from, child_placement_lem, placement_below, seed_placement, node_placement, placement_at}
+use Rattle.chains.specs.Addresses.{Address, level, seed_address, child_address, no_entry, child_entries, child_count, child_tile, seed_tile, tile_below, leads_down, node_tile, has_node, seeds_from, children_from, child_placement, placement_below, seed_placement, node_placement, placement_at}
 use Rattle.chains.specs.Theorems.{NodesAreSeedsAndChildren}
 use Rattle.chains.proofs.Lists.{map_map, get_d_map, all_map}
 
@@ -110,27 +110,27 @@ module _ (E : Cyclotomic) (N : JobNumbers) where
   unfolding children_of
   children_by_entries p = ap (map (child_of E (book_of E N) p)) (book_children p.tile) ∙ map_map _ (placement_of E) (child_entries N p.tile)
 
-  child_placement_tile : (p : Placement E) (i : ℕ) → (child_placement_lem E N p i).tile ≡ child_tile N p.tile i
-  unfolding child_placement_lem child_of child_tile
+  child_placement_tile : (p : Placement E) (i : ℕ) → (child_placement E N p i).tile ≡ child_tile N p.tile i
+  unfolding child_placement child_of child_tile
   child_placement_tile p i = refl
 
   pub placement_below_tile : (p : Placement E) (path : List ℕ) → (placement_below E N p path).tile ≡ tile_below N p.tile path
   unfolding placement_below tile_below
   placement_below_tile p [] = refl
-  placement_below_tile p (i ∷ path) = placement_below_tile (child_placement_lem E N p i) path ∙ ap (λ t. tile_below N t path) (child_placement_tile p i)
+  placement_below_tile p (i ∷ path) = placement_below_tile (child_placement E N p i) path ∙ ap (λ t. tile_below N t path) (child_placement_tile p i)
 
   -- a node's placement is of the node's tile
   pub node_placement_tile : (a : Address) → (node_placement E N a).tile ≡ node_tile N a
   unfolding node_placement node_tile seed_placement seed_tile
   node_placement_tile a = placement_below_tile _ a.path
 
-  placement_below_child : (p : Placement E) (path : List ℕ) (i : ℕ) → placement_below E N p (path ++ i ∷ []) ≡ child_placement_lem E N (placement_below E N p path) i
+  placement_below_child : (p : Placement E) (path : List ℕ) (i : ℕ) → placement_below E N p (path ++ i ∷ []) ≡ child_placement E N (placement_below E N p path) i
   unfolding placement_below
   placement_below_child p [] i = refl
-  placement_below_child p (j ∷ path) i = placement_below_child (child_placement_lem E N p j) path i
+  placement_below_child p (j ∷ path) i = placement_below_child (child_placement E N p j) path i
 
   -- a child node lies where its parent's child lies
-  pub node_placement_child : (a : Address) (i : ℕ) → node_placement E N (child_address a i) ≡ child_placement_lem E N (node_placement E N a) i
+  pub node_placement_child : (a : Address) (i : ℕ) → node_placement E N (child_address a i) ≡ child_placement E N (node_placement E N a) i
   unfolding node_placement
   node_placement_child a i = placement_below_child _ a.path i
 
@@ -162,8 +162,8 @@ module _ (E : Cyclotomic) (N : JobNumbers) where
   unfolding child_count
   children_counted p = ap length (children_by_entries p) ∙ length-map (child_entries N p.tile) _
 
-  child_at : (p : Placement E) (i : ℕ) (d : Placement E) → i < length (child_entries N p.tile) → get_or (children_of E (book_of E N) p) i d ≡ child_placement_lem E N p i
-  unfolding child_placement_lem
+  child_at : (p : Placement E) (i : ℕ) (d : Placement E) → i < length (child_entries N p.tile) → get_or (children_of E (book_of E N) p) i d ≡ child_placement E N p i
+  unfolding child_placement
   child_at p i d h = ap (λ ps. get_or ps i d) (children_by_entries p) ∙ getD_map_there _ (child_entries N p.tile) i d no_entry h
 
   few : (p : Placement E) (a : Address) (i : ℕ) → node_placement E N a ≡ p → child_count N p.tile ≡ child_count N (node_tile N a)
@@ -179,7 +179,7 @@ module _ (E : Cyclotomic) (N : JobNumbers) where
       let x = there_placed a p h in
       let m : i < child_count N p.tile = omega (arith, children_counted p) in
       placed_there (child_address a i) (has_child N a i x.0 below (omega (arith, few p a i x.1)))
-      ∙ ap Some (node_placement_child a i ∙ ap (λ q. child_placement_lem E N q i) x.1 ∙ sym (child_at p i d (in_entries p i m)))
+      ∙ ap Some (node_placement_child a i ∙ ap (λ q. child_placement E N q i) x.1 ∙ sym (child_at p i d (in_entries p i m)))
 
   seed_lies : (i : ℕ) (d : Placement E) → i < length (seeds_of E N) → placement_at E N (seed_address i) ≡ Some (get_or (seeds_of E N) i d)
   unfolding seeds_of node_placement placement_below seed_placement

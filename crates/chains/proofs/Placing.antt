@@ -10,7 +10,7 @@ use Rattle.chains.specs.Counts.{Counted, scaled, tally, reading}
 use Rattle.chains.specs.Books.{Book, Placement, label_at, tile_at}
 use Rattle.chains.specs.Edges.{Edge, Chain, same_edge, along, edge, reversed, net, SameNet, step_count, walk, ReadsEdges}
 use Rattle.chains.specs.Inflation.{stepped, subdivided, inflate}
-use Rattle.chains.specs.Placements.{image, heading, signed, placed_edge_lem, placed_entry, placed, stretched, child_of, children_of, outline, placed_outline, outlines}
+use Rattle.chains.specs.Placements.{image, heading, signed, placed_edge, placed_entry, placed, stretched, child_of, children_of, outline, placed_outline, outlines}
 use Rattle.chains.proofs.Multiples as groups
 use Rattle.chains.proofs.Tallies.{negated}
 use Rattle.chains.proofs.Edges as edges
@@ -31,7 +31,7 @@ module _ (E : Cyclotomic) (L : CyclotomicLaws E) (B : Book E) (real-length : (e 
     step_placed : (e j : ℕ) (f : Bool) (q : E.Elem) →
         let there : Counted (Edge E) = step_count E B (record { label = e; forward = f; direction = heading E p j }) (image E p q) in
         placed_entry E p (step_count E B (record { label = e; forward = f; direction = j }) q) ≡ record { what = there.what; count = signed E p there.count }
-    unfolding step_count edge placed_entry placed_edge_lem
+    unfolding step_count edge placed_entry placed_edge
     step_placed e j true q = counted_path (edge_path refl (images.heading_of_mod E L p.tile p.turn p.mirrored p.place j) refl) refl
     step_placed e j false q = counted_path (edge_path refl (images.heading_opposed E L p.tile p.turn p.mirrored p.place j) (image_along p e j q)) refl
 
@@ -67,18 +67,18 @@ module _ (E : Cyclotomic) (L : CyclotomicLaws E) (B : Book E) (real-length : (e 
     -- a placed edge, as a reading of the edge
     module _ (y : Edge E) where
       seen : Edge E → ℤ
-      seen x = net E B (record { what = placed_edge_lem E p x; count = signed E p (pos 1) } ∷ []) y
+      seen x = net E B (record { what = placed_edge E p x; count = signed E p (pos 1) } ∷ []) y
 
-      placed_reduced : (x : Edge E) → placed_edge_lem E p (edge E x.label x.direction x.start) ≡ placed_edge_lem E p x
-      unfolding edge placed_edge_lem
+      placed_reduced : (x : Edge E) → placed_edge E p (edge E x.label x.direction x.start) ≡ placed_edge E p x
+      unfolding edge placed_edge
       placed_reduced x = edge_path refl (images.heading_of_mod E L p.tile p.turn p.mirrored p.place x.direction ∙ images.heading_mod E L p.tile p.turn p.mirrored p.place x.direction) refl
 
-      placed_reversed : (x : Edge E) → placed_edge_lem E p (reversed E B x) ≡ reversed E B (placed_edge_lem E p x)
-      unfolding placed_edge_lem reversed edge
+      placed_reversed : (x : Edge E) → placed_edge E p (reversed E B x) ≡ reversed E B (placed_edge E p x)
+      unfolding placed_edge reversed edge
       placed_reversed x = edge_path refl (images.heading_opposed E L p.tile p.turn p.mirrored p.place x.direction) (image_along p x.label x.direction x.start)
 
-      placed_plain : (x : Edge E) → (label_at B x.label).arrowed ≡ false → (label_at B (placed_edge_lem E p x).label).arrowed ≡ false
-      unfolding placed_edge_lem
+      placed_plain : (x : Edge E) → (label_at B x.label).arrowed ≡ false → (label_at B (placed_edge E p x).label).arrowed ≡ false
+      unfolding placed_edge
       placed_plain x h = h
 
       net_sign : (x : Edge E) (c : ℤ) → net E B (record { what = x; count = neg_ℤ c } ∷ []) y ≡ neg_ℤ (net E B (record { what = x; count = c } ∷ []) y)
@@ -94,13 +94,13 @@ module _ (E : Cyclotomic) (L : CyclotomicLaws E) (B : Book E) (real-length : (e 
       seen_reads = record {
         modulo_n = λ x. ap (λ z. net E B (record { what = z; count = signed E p (pos 1) } ∷ []) y) (placed_reduced x);
         from_the_other_end = λ x plain. ap (λ z. net E B (record { what = z; count = signed E p (pos 1) } ∷ []) y) (placed_reversed x)
-            ∙ net_reversed (placed_edge_lem E p x) (signed E p (pos 1)) (placed_plain x plain) ∙ net_sign (placed_edge_lem E p x) (signed E p (pos 1));
+            ∙ net_reversed (placed_edge E p x) (signed E p (pos 1)) (placed_plain x plain) ∙ net_sign (placed_edge E p x) (signed E p (pos 1));
       }
 
       one_seen : (x : Counted (Edge E)) → net E B (placed_entry E p x ∷ []) y ≡ x.count *ℤ seen x.what
       unfolding seen placed_entry scaled
       one_seen x = ap (λ z. net E B (z ∷ []) y) (counted_path refl (sym (images.mul_sign E L p.tile p.turn p.mirrored p.place x.count (pos 1) ∙ ap (signed E p) (mul_one x.count))))
-          ∙ edges.net_scaled E L B x.count (record { what = placed_edge_lem E p x.what; count = signed E p (pos 1) } ∷ []) y
+          ∙ edges.net_scaled E L B x.count (record { what = placed_edge E p x.what; count = signed E p (pos 1) } ∷ []) y
 
       net_placed : (xs : Chain E) → net E B (placed E p xs) y ≡ reading groups.whole seen xs
       unfolding reading placed
@@ -123,8 +123,8 @@ module _ (E : Cyclotomic) (L : CyclotomicLaws E) (B : Book E) (real-length : (e 
     image_factor t k false P q = sym (L.ring.mul_add _ _ _ ∙ ap (E.add _) (solver.mul_swap (ring_of E L) _ _ _))
     image_factor t k true P q = sym (L.ring.mul_add _ _ _ ∙ ap (E.add _) (solver.mul_swap (ring_of E L) _ _ _ ∙ ap (E.mul (power E k)) (sym (L.conj_mul _ _ ∙ ap (λ z. E.mul z (E.conj q)) (real-factor)))))
 
-    parts_placed : (p : Placement E) (x : Edge E) → placed E (stretched E B p) (subdivided E B x) ≡ signed_chain p (subdivided E B (placed_edge_lem E p x))
-    unfolding subdivided placed_edge_lem
+    parts_placed : (p : Placement E) (x : Edge E) → placed E (stretched E B p) (subdivided E B x) ≡ signed_chain p (subdivided E B (placed_edge E p x))
+    unfolding subdivided placed_edge
     parts_placed p x = walk_placed (stretched E B p) x.direction (label_at B x.label).subdivision (E.mul B.factor x.start)
         ∙ sign_stretched p _
         ∙ ap₂ (λ j z. signed_chain p (walk E B (stepped j (label_at B x.label).subdivision) z)) (images.heading_stretched E L B p x.direction) (image_factor p.tile p.turn p.mirrored p.place x.start)

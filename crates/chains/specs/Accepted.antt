@@ -51,7 +51,7 @@ module _ (E : Cyclotomic) (B : Book E) where
   ChildrenBalance t = SameNet E B (outlines E B (tile_at B t).children) (inflate E B (outline E B t))
 
   pub record Accepted : Type 0 where
-    pub factor_fits_lem : FactorAboveOne
+    pub factor_fits : FactorAboveOne
     pub lengths_fit : (e : ℕ) → e < length B.labels → LengthAboveZero e
     pub subdivisions_fit : (e : ℕ) → e < length B.labels → SubdivisionFits e
     pub outlines_close : (t : ℕ) → t < length B.tiles → OutlineCloses t

@@ -103,12 +103,12 @@ module _ (N : JobNumbers) where
 -- ---- where a node lies
 module _ (E : Cyclotomic) (N : JobNumbers) where
   -- child i of a placed tile, and so on down a path
-  unfoldable pub child_placement_lem : Placement E → ℕ → Placement E
-  child_placement_lem p i = child_of E (book_of E N) p (placement_of E (slice_index_or (child_entries N p.tile) i no_entry))
+  unfoldable pub child_placement : Placement E → ℕ → Placement E
+  child_placement p i = child_of E (book_of E N) p (placement_of E (slice_index_or (child_entries N p.tile) i no_entry))
 
   unfoldable pub placement_below : Placement E → List ℕ → Placement E
   placement_below p [] = p
-  placement_below p (i ∷ path) = placement_below (child_placement_lem p i) path
+  placement_below p (i ∷ path) = placement_below (child_placement p i) path
 
   unfoldable pub seed_placement : ℕ → Placement E
   seed_placement i = placement_of E (slice_index_or N.seeds i no_entry)

@@ -19,11 +19,11 @@ module _ (E : Cyclotomic) (p : Placement E) where
   unfoldable pub signed : ℤ → ℤ
   signed c = cond p.mirrored (neg_ℤ c) c
 
-  unfoldable pub placed_edge_lem : Edge E → Edge E
-  placed_edge_lem x = record { label = x.label; direction = heading x.direction; start = image x.start }
+  unfoldable pub placed_edge : Edge E → Edge E
+  placed_edge x = record { label = x.label; direction = heading x.direction; start = image x.start }
 
   unfoldable pub placed_entry : Counted (Edge E) → Counted (Edge E)
-  placed_entry x = record { what = placed_edge_lem x.what; count = signed x.count }
+  placed_entry x = record { what = placed_edge x.what; count = signed x.count }
 
   unfoldable pub placed : Chain E → Chain E
   placed c = map placed_entry c

@@ -7,90 +7,90 @@ use rings::ring::Ring;
 
 // Chains with equal net counts have equal sums under every reading of edges into a commutative group.
 pub fn same_nets_read_alike<R: Ring, G: Group>() -> u8
-    ensures { SameNetsReadAlike exact group }
+    ensures { SameNetsReadAlike R.exact group }
 {
     0
 }
 
 // The sweep from an edge's start to its end is such a reading, and an outline's reading by it is its total sweep.
 pub fn sweeps_read_edges<R: Ring>() -> u8
-    ensures { SweepsReadEdges exact }
+    ensures { SweepsReadEdges R.exact }
 {
     0
 }
 
 // Where every subdivision fits, inflation keeps equal net counts.
 pub fn inflation_keeps_same_nets<R: Ring>() -> u8
-    ensures { InflationKeepsSameNets exact }
+    ensures { InflationKeepsSameNets R.exact }
 {
     0
 }
 
 // To inflate a placed chain is to place the inflated chain, with F.P for the place P.
 pub fn placing_and_inflating_commute<R: Ring>() -> u8
-    ensures { PlacingAndInflatingCommute exact }
+    ensures { PlacingAndInflatingCommute R.exact }
 {
     0
 }
 
 pub fn placing_keeps_same_nets<R: Ring>() -> u8
-    ensures { PlacingKeepsSameNets exact }
+    ensures { PlacingKeepsSameNets R.exact }
 {
     0
 }
 
 // To place by a child of a placed parent is to place by the child, then by the parent at F.P.
 pub fn children_compose<R: Ring>() -> u8
-    ensures { ChildrenCompose exact }
+    ensures { ChildrenCompose R.exact }
 {
     0
 }
 
 // In an accepted book, a placed tile's children have the net counts of its outline inflated once.
 pub fn children_balance_their_parent<R: Ring>() -> u8
-    ensures { ChildrenBalanceTheirParent exact }
+    ensures { ChildrenBalanceTheirParent R.exact }
 {
     0
 }
 
 // Chains that agree at the edges that occur in them agree at every edge.
 pub fn agreeing_where_edges_occur_is_enough<R: Ring>() -> u8
-    ensures { AgreeingWhereEdgesOccurIsEnough exact }
+    ensures { AgreeingWhereEdgesOccurIsEnough R.exact }
 {
     0
 }
 
 // Each move from one frontier to another keeps the boundary conserved.
 pub fn moves_conserve_the_boundary<R: Ring>() -> u8
-    ensures { MovesConserveTheBoundary exact }
+    ensures { MovesConserveTheBoundary R.exact }
 {
     0
 }
 
 // After any moves from the start, the frontier's nodes are the job's, and the boundary is conserved.
 pub fn traversal_conserves_the_boundary<R: Ring>() -> u8
-    ensures { TraversalConservesTheBoundary exact }
+    ensures { TraversalConservesTheBoundary R.exact }
 {
     0
 }
 
 // Put in a laid node's stead, a placement conserves the boundary only where its outline has the net counts of the node's.
 pub fn only_the_right_outline_conserves<R: Ring>() -> u8
-    ensures { OnlyTheRightOutlineConserves exact }
+    ensures { OnlyTheRightOutlineConserves R.exact }
 {
     0
 }
 
 // After any moves from the start, what is laid and what is lacking read together as the inflated seed reads.
 pub fn traversal_conserves_readings<R: Ring, G: Group>() -> u8
-    ensures { TraversalConservesReadings exact group }
+    ensures { TraversalConservesReadings R.exact group }
 {
     0
 }
 
 // A node is a seed tile or, down to the depth, a child of a node, and lies where that seed tile or child lies.
 pub fn nodes_are_seeds_and_children<R: Ring>() -> u8
-    ensures { NodesAreSeedsAndChildrenInEveryJob exact }
+    ensures { NodesAreSeedsAndChildrenInEveryJob R.exact }
 {
     0
 }

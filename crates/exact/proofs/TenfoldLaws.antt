@@ -142,12 +142,12 @@ module _ {A : Type 0} (◌⊕◌ ◌⊗◌ : A → A → A) (⊖◌ : A → A) w
   }
 
   -- the cross products of neighbouring coefficients, and of those farther apart
-  abbrev pub near_cross_lem : Quad A → Quad A → A
-  near_cross_lem x y =
+  abbrev pub near_cross : Quad A → Quad A → A
+  near_cross x y =
       ◌⊕◌ (◌⊕◌ (◌⊕◌ (◌⊗◌ x.c0 y.c1) (⊖◌ (◌⊗◌ x.c1 y.c0))) (◌⊕◌ (◌⊗◌ x.c1 y.c2) (⊖◌ (◌⊗◌ x.c2 y.c1)))) (◌⊕◌ (◌⊗◌ x.c2 y.c3) (⊖◌ (◌⊗◌ x.c3 y.c2)))
 
-  abbrev pub far_cross_lem : Quad A → Quad A → A
-  far_cross_lem x y =
+  abbrev pub far_cross : Quad A → Quad A → A
+  far_cross x y =
       ◌⊕◌ (◌⊕◌ (◌⊕◌ (◌⊗◌ x.c0 y.c2) (⊖◌ (◌⊗◌ x.c2 y.c0))) (◌⊕◌ (◌⊗◌ x.c1 y.c3) (⊖◌ (◌⊗◌ x.c3 y.c1)))) (◌⊕◌ (◌⊗◌ x.c0 y.c3) (⊖◌ (◌⊗◌ x.c3 y.c0)))
 
   -- ζ - ζ⁻¹ is (-1, 2, -1, 1), and ζ² - ζ⁻² and ζ³ - ζ⁻³ are both (0, 0, 1, 1)
@@ -157,5 +157,5 @@ module _ {A : Type 0} (◌⊕◌ ◌⊗◌ : A → A → A) (⊖◌ : A → A) w
 pub mul_by_rows : (x y : Quad ℤ) → by_rows ◌+ℤ◌ ◌*ℤ◌ neg_ℤ x y ≡ tenfold.mul x y
 mul_by_rows x y = quad_solved (at x y y) (by_rows plus times minus X4 Y4) (X4 ⊗ Y4) (tt, tt, tt, tt)
 
-pub sweep_by_crosses : (x y : Quad ℤ) → by_crosses ◌+ℤ◌ ◌*ℤ◌ neg_ℤ (near_cross_lem ◌+ℤ◌ ◌*ℤ◌ neg_ℤ x y) (far_cross_lem ◌+ℤ◌ ◌*ℤ◌ neg_ℤ x y) ≡ sweep tenfold x y
-sweep_by_crosses x y = quad_solved (at x y y) (by_crosses plus times minus (near_cross_lem plus times minus X4 Y4) (far_cross_lem plus times minus X4 Y4)) (conj X4 ⊗ Y4 ⊕ ⊖◌ (X4 ⊗ conj Y4)) (tt, tt, tt, tt)
+pub sweep_by_crosses : (x y : Quad ℤ) → by_crosses ◌+ℤ◌ ◌*ℤ◌ neg_ℤ (near_cross ◌+ℤ◌ ◌*ℤ◌ neg_ℤ x y) (far_cross ◌+ℤ◌ ◌*ℤ◌ neg_ℤ x y) ≡ sweep tenfold x y
+sweep_by_crosses x y = quad_solved (at x y y) (by_crosses plus times minus (near_cross plus times minus X4 Y4) (far_cross plus times minus X4 Y4)) (conj X4 ⊗ Y4 ⊕ ⊖◌ (X4 ⊗ conj Y4)) (tt, tt, tt, tt)

@@ -14,7 +14,7 @@ pub record OneText : Type 0 where
   -- the text that is written of a job in range reads as that job, and is not overlong
   pub own_text : (j : JobNumbers) → InRange j → Reads (spelled j) j × (length (spelled j) ≤ most_bytes)
   -- two texts that read as the same job are equal, and so are two jobs that the same text reads as
-  pub one_text_lem : (t u : List ℕ) (j : JobNumbers) → Reads t j → Reads u j → t ≡ u
+  pub one_text : (t u : List ℕ) (j : JobNumbers) → Reads t j → Reads u j → t ≡ u
   pub one_job : (t : List ℕ) (i j : JobNumbers) → Reads t i → Reads t j → i ≡ j
   -- a text that reads as a job is not refused, and none is refused in two ways
   pub no_refusal : (t : List ℕ) (j : JobNumbers) (n k : ℕ) → Reads t j → Refused t n k → ⊥

@@ -13,10 +13,10 @@ pub record At (t : List ℕ) (before : List Line) (f : Front) (rest : List ℕ) 
   pub leads : Leads nothing before f
 
 -- the line is of a child that names none of so many tiles
-abbrev pub beyond_child_lem : ℕ → List ℤ → Bool
-beyond_child_lem tiles [] = false
-beyond_child_lem tiles (pos tile ∷ zs) = nat_le tiles tile
-beyond_child_lem tiles (negsuc n ∷ zs) = false
+abbrev pub beyond_child : ℕ → List ℤ → Bool
+beyond_child tiles [] = false
+beyond_child tiles (pos tile ∷ zs) = nat_le tiles tile
+beyond_child tiles (negsuc n ∷ zs) = false
 
 abbrev pub beyond : ℕ → Letter → List ℤ → Bool
 beyond tiles letter_R zs = false
@@ -24,7 +24,7 @@ beyond tiles letter-I zs = false
 beyond tiles letter-L zs = false
 beyond tiles letter-S zs = false
 beyond tiles letter-T zs = false
-beyond tiles letter-C zs = beyond_child_lem tiles zs
+beyond tiles letter-C zs = beyond_child tiles zs
 beyond tiles letter-D zs = false
 beyond tiles letter-P zs = false
 

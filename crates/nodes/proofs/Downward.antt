@@ -7,7 +7,7 @@ use Rattle.exact.specs.JobNumbers.{PlacedNumbers, JobNumbers}
 use Rattle.chains.specs.Books as books
 use Rattle.chains.specs.Books.{Book, Placement, placement_of, book_of}
 use Rattle.chains.specs.Placements.{child_of}
-use Rattle.chains.specs.Addresses.{Address, child_entries, child_count, child_tile, no_entry, leads_down, seed_tile, seed_placement, node_placement, child_placement_lem, placement_below}
+use Rattle.chains.specs.Addresses.{Address, child_entries, child_count, child_tile, no_entry, leads_down, seed_tile, seed_placement, node_placement, child_placement, placement_below}
 use Rattle.edges.specs.declared.rows.Placed.{Placed}
 use Rattle.edges.specs.Views.{placement_view, book_view}
 use Rattle.ring_jobs.specs.Shapes.{placed_with}
@@ -16,7 +16,7 @@ use Rattle.ring_jobs.specs.declared.job.RingJob.{RingJob}
 use Rattle.ring_jobs.proofs.Booked.{book_is}
 use Rattle.rings.specs.Plane.{OnPlane}
 use Rattle.rings.specs.declared.fault.RingFault.{RingFault}
-use Rattle.nodes.specs.OnPlane.{on_plane_lem, kept_child}
+use Rattle.nodes.specs.OnPlane.{on_plane, kept_child}
 use Rattle.nodes.specs.Table.{Entry, there, missing, outside, child_entry, cornered, kept_below, kept_way}
 use Rattle.nodes.specs.Views.{fault_entry, entry_of}
 use Rattle.nodes.specs.declared.fault.PlaceFault.{PlaceFault}
@@ -81,26 +81,26 @@ module _ {S : Type 0} (E : Cyclotomic) (L : CyclotomicLaws E) (v : S → E.Elem)
 
     pub no_child : length (child_entries N p.tile) ≤ k → missing ≡ child_entry E N p k
     unfolding child_entry
-    no_child h = sym (ap (λ b. cond b (cond (kept_child E (book_of E N) p (placement_of E entry)) (there (child_placement_lem E N p k)) outside) missing) (uncounted h))
+    no_child h = sym (ap (λ b. cond b (cond (kept_child E (book_of E N) p (placement_of E entry)) (there (child_placement E N p k)) outside) missing) (uncounted h))
 
-    some_child : k < length (child_entries N p.tile) → child_entry E N p k ≡ cond (kept_child E (book_of E N) p (placement_of E entry)) (there (child_placement_lem E N p k)) outside
+    some_child : k < length (child_entries N p.tile) → child_entry E N p k ≡ cond (kept_child E (book_of E N) p (placement_of E entry)) (there (child_placement E N p k)) outside
     unfolding child_entry
-    some_child h = ap (λ b. cond b (cond (kept_child E (book_of E N) p (placement_of E entry)) (there (child_placement_lem E N p k)) outside) missing) (counted h)
+    some_child h = ap (λ b. cond b (cond (kept_child E (book_of E N) p (placement_of E entry)) (there (child_placement E N p k)) outside) missing) (counted h)
 
     module _ (c : Placed S) (h : k < length (child_entries N p.tile)) (e : entry ≡ placed_with (coefficients E v) c) where
       same_kept : kept_child E (book_view E v j.book) p (placement_view E v c) ≡ kept_child E (book_of E N) p (placement_of E entry)
       same_kept = ap₂ (λ B x. kept_child E B p x) (sym (book_is E L v j)) (sym (row_placed entry c e))
 
-      same_place : child_of E (book_view E v j.book) p (placement_view E v c) ≡ child_placement_lem E N p k
-      unfolding child_placement_lem
+      same_place : child_of E (book_view E v j.book) p (placement_view E v c) ≡ child_placement E N p k
+      unfolding child_placement
       same_place = ap₂ (λ B x. child_of E B p x) (sym (book_is E L v j)) (sym (row_placed entry c e))
 
       pub child_there : (q : Placement E) → q ≡ child_of E (book_view E v j.book) p (placement_view E v c) → kept_child E (book_view E v j.book) p (placement_view E v c) ≡ true →
           there q ≡ child_entry E N p k
-      child_there q a b = ap there (a ∙ same_place) ∙ sym (some_child h ∙ ap (λ b. cond b (there (child_placement_lem E N p k)) outside) (sym same_kept ∙ b))
+      child_there q a b = ap there (a ∙ same_place) ∙ sym (some_child h ∙ ap (λ b. cond b (there (child_placement E N p k)) outside) (sym same_kept ∙ b))
 
       pub child_outside : (kept_child E (book_view E v j.book) p (placement_view E v c) ≡ true → ⊥) → outside ≡ child_entry E N p k
-      child_outside n = sym (some_child h ∙ ap (λ b. cond b (there (child_placement_lem E N p k)) outside) (sym same_kept ∙ no_true _ n))
+      child_outside n = sym (some_child h ∙ ap (λ b. cond b (there (child_placement E N p k)) outside) (sym same_kept ∙ no_true _ n))
 
 -- the exit of a `?`
 pub ring_entry : {S : Type 0} (E : Cyclotomic) (v : S → E.Elem) (r : Result (Placed S) PlaceFault) (f : RingFault) (x : Entry E) → IsErrAnd r (λ y. y ≡ Ring f) → outside ≡ x → entry_of E v r ≡ x
@@ -125,31 +125,31 @@ module _ (E : Cyclotomic) (N : JobNumbers) (p : Placement E) (k : ℕ) (path : L
   abbrev kept : Bool
   kept = kept_child E (book_of E N) p (placement_of E (get_or (child_entries N p.tile) k no_entry))
 
-  by_kept : child_entry E N p k ≡ cond kept (there (child_placement_lem E N p k)) outside
+  by_kept : child_entry E N p k ≡ cond kept (there (child_placement E N p k)) outside
   unfolding child_entry
-  by_kept = ap (λ b. cond b (cond kept (there (child_placement_lem E N p k)) outside) missing) child_is_there
+  by_kept = ap (λ b. cond b (cond kept (there (child_placement E N p k)) outside) missing) child_is_there
 
   -- the child is made: the rest of the path goes on from it
   module _ (q : Placement E) (e : there q ≡ child_entry E N p k) where
-    made : (kept ≡ true) × (q ≡ child_placement_lem E N p k)
-    made = there_means E q (child_placement_lem E N p k) kept (e ∙ by_kept)
+    made : (kept ≡ true) × (q ≡ child_placement E N p k)
+    made = there_means E q (child_placement E N p k) kept (e ∙ by_kept)
 
     pub kept_on : kept_below E N p (k ∷ path) ≡ kept_below E N q path
     unfolding kept_below
-    kept_on = ap (λ b. b && kept_below E N (child_placement_lem E N p k) path) made.0 ∙ sym (ap (λ x. kept_below E N x path) made.1)
+    kept_on = ap (λ b. b && kept_below E N (child_placement E N p k) path) made.0 ∙ sym (ap (λ x. kept_below E N x path) made.1)
 
     pub placed_on : placement_below E N p (k ∷ path) ≡ placement_below E N q path
     unfolding placement_below
     placed_on = sym (ap (λ x. placement_below E N x path) made.1)
 
     pub leads_on_from : leads_down N q.tile path ≡ true
-    unfolding leads_down child_tile child_placement_lem child_of
+    unfolding leads_down child_tile child_placement child_of
     leads_on_from = ap (λ (x : Placement E). leads_down N x.tile path) made.1 ∙ (and_parts _ _ down).1
 
   -- the child is off the plane, and so is all that lies below
   pub off_below : (f : PlaceFault) → fault_entry E f ≡ child_entry E N p k → (kept_below E N p (k ∷ path) ≡ false) × (fault_entry E f ≡ outside)
   unfolding kept_below
-  off_below f e = let h = fault_means E f (child_placement_lem E N p k) kept (e ∙ by_kept) in (ap (λ b. b && kept_below E N (child_placement_lem E N p k) path) h.0, h.1)
+  off_below f e = let h = fault_means E f (child_placement E N p k) kept (e ∙ by_kept) in (ap (λ b. b && kept_below E N (child_placement E N p k) path) h.0, h.1)
 
 -- ---- the seed tile
 module _ {S : Type 0} (E : Cyclotomic) (L : CyclotomicLaws E) (v : S → E.Elem) (bounded : (z : S) → OnPlane E (v z)) (N : JobNumbers) (s : ℕ) (path : List ℕ) (c : Placed S) (e : get_or N.seeds s no_entry ≡ placed_with (coefficients E v) c) where
@@ -160,7 +160,7 @@ module _ {S : Type 0} (E : Cyclotomic) (L : CyclotomicLaws E) (v : S → E.Elem)
   pub seed_way : kept_way E N (record { seed = s; path = path }) ≡ kept_below E N (placement_view E v c) path
   unfolding kept_way
   seed_way =
-      ap (λ b. b && kept_below E N (seed_placement E N s) path) (ap (λ (x : Placement E). on_plane_lem E x.place) seed_placed ∙ yes_plane E (v c.place) (bounded c.place))
+      ap (λ b. b && kept_below E N (seed_placement E N s) path) (ap (λ (x : Placement E). on_plane E x.place) seed_placed ∙ yes_plane E (v c.place) (bounded c.place))
       ∙ ap (λ x. kept_below E N x path) seed_placed
 
   pub seed_node : node_placement E N (record { seed = s; path = path }) ≡ placement_below E N (placement_view E v c) path

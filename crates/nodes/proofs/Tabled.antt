@@ -4,9 +4,9 @@ use Rattle.std.proofs.lemmas.Bool.{and_parts}
 use Rattle.exact.specs.Cyclotomic.{Cyclotomic}
 use Rattle.exact.specs.JobNumbers.{JobNumbers}
 use Rattle.chains.specs.Books.{Placement, placement_of, book_of}
-use Rattle.chains.specs.Addresses.{Address, level, child_address, has_node, node_tile, child_count, child_entries, no_entry, child_placement_lem, placement_below, seed_placement, node_placement}
+use Rattle.chains.specs.Addresses.{Address, level, child_address, has_node, node_tile, child_count, child_entries, no_entry, child_placement, placement_below, seed_placement, node_placement}
 use Rattle.chains.proofs.Nodes.{has_child, has_child_only, node_placement_tile, node_placement_child}
-use Rattle.nodes.specs.OnPlane.{on_plane_lem, kept_child, kept_corners}
+use Rattle.nodes.specs.OnPlane.{on_plane, kept_child, kept_corners}
 use Rattle.nodes.specs.Table.{Entry, there, missing, outside, kept_below, kept_way, node_on_plane, table, child_entry, cornered}
 use Rattle.nodes.proofs.Testing.{no_true}
 use Rattle.nodes.proofs.Downward.{there_means, not_missing}
@@ -26,11 +26,11 @@ module _ (E : Cyclotomic) (N : JobNumbers) where
   below_child : (p : Placement E) (path : List ℕ) (k : ℕ) → kept_below E N p (path ++ k ∷ []) ≡ (kept_below E N p path && kept (placement_below E N p path) k)
   unfolding kept_below placement_below
   below_child p [] k = and_true _
-  below_child p (i ∷ path) k = ap (λ b. kept p i && b) (below_child (child_placement_lem E N p i) path k) ∙ and_assoc _ _ _
+  below_child p (i ∷ path) k = ap (λ b. kept p i && b) (below_child (child_placement E N p i) path k) ∙ and_assoc _ _ _
 
   way_child : (a : Address) (k : ℕ) → kept_way E N (child_address a k) ≡ (kept_way E N a && kept (node_placement E N a) k)
   unfolding kept_way node_placement
-  way_child a k = ap (λ b. on_plane_lem E (seed_placement E N a.seed).place && b) (below_child (seed_placement E N a.seed) a.path k) ∙ and_assoc _ _ _
+  way_child a k = ap (λ b. on_plane E (seed_placement E N a.seed).place && b) (below_child (seed_placement E N a.seed) a.path k) ∙ and_assoc _ _ _
 
   -- an address whose node lies at p
   pub table_there : (a : Address) (p : Placement E) → table E N a ≡ there p → (has_node N a ≡ true) × (node_on_plane E N a ≡ true) × (p ≡ node_placement E N a)
@@ -52,7 +52,7 @@ module _ (E : Cyclotomic) (N : JobNumbers) where
     unfolding table node_on_plane
     whole_is b w h z = sym (ap₂ whole h z)
 
-    step : (b c : Bool) → ltb k (child_count N p.tile) ≡ b → kept p k ≡ c → cornered E N (cond b (cond c (there (child_placement_lem E N p k)) outside) missing) ≡ table E N (child_address a k)
+    step : (b c : Bool) → ltb k (child_count N p.tile) ≡ b → kept p k ≡ c → cornered E N (cond b (cond c (there (child_placement E N p k)) outside) missing) ≡ table E N (child_address a k)
     unfolding cornered
     step true true h z =
         let w = way_child a k ∙ ap₂ ◌&&◌ way z in

@@ -14,7 +14,7 @@ use Rattle.chains.specs.Edges.{along}
 use Rattle.chains.specs.Placements.{stretched}
 use Rattle.edges.specs.Answers.{Worked}
 use Rattle.edges.specs.Working.{KeptImage, KeptAlong}
-use Rattle.nodes.specs.OnPlane.{small, on_plane_lem, kept_image, kept_child, kept_along, kept_corners_from}
+use Rattle.nodes.specs.OnPlane.{small, on_plane, kept_image, kept_child, kept_along, kept_corners_from}
 
 small_in : (s : ℕ) (l : List ℤ) → small s l ≡ true → Within s l
 unfolding small
@@ -27,12 +27,12 @@ in_small s [] h = refl
 in_small s (c ∷ cs) h = and_from _ _ (le-leb _ _ (between_abs s c h.0)) (in_small s cs h.1)
 
 module _ (E : Cyclotomic) where
-  pub plane_yes : (x : E.Elem) → on_plane_lem E x ≡ true → OnPlane E x
-  unfolding on_plane_lem
+  pub plane_yes : (x : E.Elem) → on_plane E x ≡ true → OnPlane E x
+  unfolding on_plane
   plane_yes x h = small_in plane_bound (E.list x) h
 
-  pub yes_plane : (x : E.Elem) → OnPlane E x → on_plane_lem E x ≡ true
-  unfolding on_plane_lem
+  pub yes_plane : (x : E.Elem) → OnPlane E x → on_plane E x ≡ true
+  unfolding on_plane
   yes_plane x h = in_small plane_bound (E.list x) h
 
   pub image_yes : (p : Placement E) (z : E.Elem) → kept_image E p z ≡ true → KeptImage E p z

@@ -14,7 +14,7 @@ use Rattle.chains.specs.Counts.{scaled}
 use Rattle.chains.specs.Books.{Book, Placement, label_at, tile_at}
 use Rattle.chains.specs.Edges.{Edge, Chain, along, edge, step_count, walk, corners}
 use Rattle.chains.specs.Inflation.{stepped, subdivided, inflate}
-use Rattle.chains.specs.Placements.{image, placed, placed_entry, placed_edge_lem, outline, placed_outline, outlines}
+use Rattle.chains.specs.Placements.{image, placed, placed_entry, placed_edge, outline, placed_outline, outlines}
 use Rattle.chains.specs.Accepted.{lengths, total_sweep}
 use Rattle.rows.specs.Limits.{most_parts, most_steps}
 use Rattle.edges.specs.Working.{KeptAlong, KeptImage, KeptCanonical}
@@ -143,7 +143,7 @@ module _ (E : Cyclotomic) (L : CyclotomicLaws E) (Z : SizeLaws E) (B : Book E) w
     kept_placed p v = (kept_outline p.tile, All-weaker _ _ (λ x w. kept_image p x.what.start v w) (outline E B p.tile) (outline_starts p.tile))
 
     placed_starts : (p : Placement E) → Within 32 (E.list p.place) → StartsWithin E 3104 (placed_outline E B p)
-    unfolding placed_outline placed placed_entry placed_edge_lem
+    unfolding placed_outline placed placed_entry placed_edge
     placed_starts p v = All-map _ (placed_entry E p) (outline E B p.tile) (All-weaker _ _ (λ x w. image_size p x.what.start v w) (outline E B p.tile) (outline_starts p.tile))
 
     outlines_starts : (ps : List (Placement E)) → All (λ p. Within 32 (E.list p.place)) ps → StartsWithin E 3104 (outlines E B ps)
@@ -186,6 +186,6 @@ module _ (E : Cyclotomic) (L : CyclotomicLaws E) (Z : SizeLaws E) (B : Book E) w
       children = All-weaker _ _ kept_placed (tile_at B t).children v;
       corners = kept_outline t;
       inflated = All-weaker _ _ (λ x w. kept_subdivided x.what w) (outline E B t) (outline_starts t);
-      children_forms_lem = kept_forms 3104 _ (omega arith) (outlines_starts (tile_at B t).children v);
-      inflated_forms_lem = kept_forms 197120 _ (omega arith) (inflate_starts (outline E B t) (outline_starts t));
+      children_forms = kept_forms 3104 _ (omega arith) (outlines_starts (tile_at B t).children v);
+      inflated_forms = kept_forms 197120 _ (omega arith) (inflate_starts (outline E B t) (outline_starts t));
     }

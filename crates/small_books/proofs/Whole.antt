@@ -11,7 +11,7 @@ use Rattle.chains.specs.Accepted.{Accepted}
 use Rattle.book.specs.declared.fault.BookFault.{BookFault}
 use Rattle.book.specs.declared.fault.BookFault.TheVariants.{Factor, Length, Subdivision, Outline, Unbalanced, Ring, Memory}
 use Rattle.book.specs.Points.{Kept, Rejects, WorkedOnThePlane, points, length_points, subdivision_points, outline_points}
-use Rattle.book.specs.Points.Point.{length_of, subdivision_of, outline_of_lem, children_of}
+use Rattle.book.specs.Points.Point.{length_of, subdivision_of, outline_of, children_of}
 use Rattle.book.proofs.Added.{zero_within}
 use Rattle.book.proofs.Judging.{all_below}
 use Rattle.small_books.specs.Sizes.{Small, Limited, NotAccepted, SmallBooksStayOnThePlane}
@@ -32,7 +32,7 @@ module _ (E : Cyclotomic) (L : CyclotomicLaws E) (Z : SizeLaws E) where
         kept_factor E L Z B l.steps l.parts s.factor w,
         All-append K (length_points E B) _ (all_below K length_of (length B.labels) (λ e _. kept_length E L Z B l.steps l.parts s.factor w e))
             (All-append K (subdivision_points E B) _ (all_below K subdivision_of (length B.labels) (λ e _. kept_subdivision E L Z B l.steps l.parts s.factor w e))
-            (All-append K (outline_points E B) _ (all_below K outline_of_lem (length B.tiles) (λ t _. kept_round E L Z B l.steps l.parts s.factor w t))
+            (All-append K (outline_points E B) _ (all_below K outline_of (length B.tiles) (λ t _. kept_round E L Z B l.steps l.parts s.factor w t))
             (all_below K children_of (length B.tiles) (λ t h. kept_balance E L Z B l.steps l.parts s.factor w t (s.places t h))))),
       )
 

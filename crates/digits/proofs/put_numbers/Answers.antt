@@ -7,7 +7,7 @@ use Rattle.digits.proofs.put_numbers.Goals as goal
 pub loop-z-preserved : goal.loop-z-preserved
 loop-z-preserved c =
     let f : SFits w64 (get_or c.args.zs.now c.loop-z.z-index (pos 0)) = search rules in
-    puts_more word (pos 0) _ _ _ _ _ _ _ _ _ c.loop-z-test.true (to_z-of_z w64 _ f) c.loop-z.invariant c.put-number-next.ensures
+    puts_more word (pos 0) _ _ _ _ _ _ _ _ _ c.loop-z-test.true (to_z-of_z w64 _ f) c.loop-z.invariant c.put_number-next.ensures
 
 pub returns : goal.returns
 returns c = puts_all word _ _ _ _ _ _ c.loop-z-test.false c.loop-z.invariant

@@ -11,7 +11,7 @@ loop-x-init g c = (rw c.new-out.ensures.items, λ k. k)
 pub loop-x-preserved : goal.loop-x-preserved
 loop-x-preserved g c =
     let E = g.R.Ring.exact in let v = g.R.Ring.value in let B = book_view E v c.args.book.now in
-    let h = c.in-ok-put-subdivided.ensures.is in (
+    let h = c.in_ok-put_subdivided.ensures.is in (
       join_more (inflated_one E v B) (inflated_rest E v B) (inflated_cons E v B) (inflated_none E v B) c.args.chain.now c.loop-x.x-index
           _ _ _ c.x-item.result c.loop-x-test.true c.x-item.is h.0 c.loop-x.invariant.0,
       all_step (counted_view E v) (λ x. KeptSubdivided E B x.what) _ c.args.chain.now c.loop-x.x-index c.x-item.result c.loop-x-test.true c.x-item.is h.1 c.loop-x.invariant.1,
@@ -27,9 +27,9 @@ returns g c =
       );
     }
 
-pub returns-in-err-put-subdivided : goal.returns-in-err-put-subdivided
-returns-in-err-put-subdivided g c =
+pub returns-in_err-put_subdivided : goal.returns-in_err-put_subdivided
+returns-in_err-put_subdivided g c =
     let E = g.R.Ring.exact in let v = g.R.Ring.value in let B = book_view E v c.args.book.now in
-    handed_on c.from-residual.result _ _ _ _
+    handed_on c.from_residual.result _ _ _ _
     (all_row (counted_view E v) (λ x. KeptSubdivided E B x.what) c.args.chain.now c.loop-x.x-index c.x-item.result c.loop-x-test.true c.x-item.is)
-    c.in-err-put-subdivided.ensures.is c.from-residual.ensures.1
+    c.in_err-put_subdivided.ensures.is c.from_residual.ensures.1

@@ -9,7 +9,7 @@ pub loop-x-preserved : goal.loop-x-preserved
 loop-x-preserved g c =
     let E = g.R.Ring.exact in let v = g.R.Ring.value in
     push_more (counted_view E v) (scaled_one E v c.args.back) c.args.chain.now c.loop-x.x-index (vec_items c.loop-x.out) (vec_items c.push.new.self) _ c.x-item.result _
-    c.in-ok-push.ensures.items c.loop-x-test.true c.x-item.is (entry_same E _ _ _ _ _ _ _ refl refl (count_times c.args.back c.x-item.result.back)) c.loop-x.invariant
+    c.in_ok-push.ensures.items c.loop-x-test.true c.x-item.is (entry_same E _ _ _ _ _ _ _ refl refl (count_times c.args.back c.x-item.result.back)) c.loop-x.invariant
 
 pub returns : goal.returns
 returns g c =
@@ -22,5 +22,5 @@ returns g c =
       );
     }
 
-pub returns-in-err-push : goal.returns-in-err-push
-returns-in-err-push g c = no_memory c.from-residual.result _ _ c.from-residual.ensures.1
+pub returns-in_err-push : goal.returns-in_err-push
+returns-in_err-push g c = no_memory c.from_residual.result _ _ c.from_residual.ensures.1

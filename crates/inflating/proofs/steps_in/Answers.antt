@@ -16,11 +16,11 @@ pub loop-p-preserved : goal.loop-p-preserved
 loop-p-preserved c =
     let x = get_or c.args.parts.now c.loop-p.p-index none in
     push_more step_of (step_of_part c.args.direction) c.args.parts.now c.loop-p.p-index (vec_items c.loop-p.out) (vec_items c.push.new.self) _ x _
-    c.in-ok-push.ensures.items c.loop-p-test.true (get_or_default c.args.parts.now c.loop-p.p-index none x c.loop-p-test.true) refl c.loop-p.invariant
+    c.in_ok-push.ensures.items c.loop-p-test.true (get_or_default c.args.parts.now c.loop-p.p-index none x c.loop-p-test.true) refl c.loop-p.invariant
 
 pub returns : goal.returns
 returns c =
     record { is = (push_end step_of (step_of_part c.args.direction) c.args.parts.now c.loop-p.p-index (vec_items c.loop-p.out) _ c.loop-p-test.false c.loop-p.invariant ∙ steps_of_parts c.args.direction c.args.parts.now, tt) }
 
-pub returns-in-err-push : goal.returns-in-err-push
-returns-in-err-push c = no_memory c.from-residual.result _ _ c.from-residual.ensures.1
+pub returns-in_err-push : goal.returns-in_err-push
+returns-in_err-push c = no_memory c.from_residual.result _ _ c.from_residual.ensures.1

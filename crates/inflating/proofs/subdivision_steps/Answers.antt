@@ -8,10 +8,10 @@ use Rattle.inflating.proofs.subdivision_steps.Goals as goal
 pub returns-then-e-len : goal.returns-then-e-len
 returns-then-e-len g c =
     let E = g.R.Ring.exact in let v = g.R.Ring.value in
-    made_weaker c.steps-in.result _ _ _ _
-    (λ _ e. e ∙ ap (λ l. stepped c.args.direction (map part_of l)) c.as-slice.ensures.value
+    made_weaker c.steps_in.result _ _ _ _
+    (λ _ e. e ∙ ap (λ l. stepped c.args.direction (map part_of l)) c.as_slice.ensures.value
     ∙ sym (ap (λ l. stepped c.args.direction l.subdivision) (label_is E v c.args.book.now c.args.e _ c.index.result.now c.len.ensures c.if-e-len.true c.index.ensures)))
-    (λ k. k) (λ k. k) c.steps-in.ensures
+    (λ k. k) (λ k. k) c.steps_in.ensures
 
 pub returns-else-e-len : goal.returns-else-e-len
 unfolding stepped

@@ -10,10 +10,10 @@ pub returns : goal.returns
 returns c =
     puts_as _ _ _ _ _ _ (job_text c.args.job.now)
     (puts_then _ _ _ _ _ _ _ _ (puts_then _ _ _ _ _ _ _ _ (puts_then _ _ _ _ _ _ _ _ (puts_then _ _ _ _ _ _ _ _ (puts_then _ _ _ _ _ _ _ _ (puts_then _ _ _ _ _ _ _ _
-    c.put-single-factor.ensures
-    (puts_as _ _ _ _ _ _ (ap (λ zs. 73 ∷ (flat_map word zs ++ 10 ∷ [])) c.as-slice.ensures.value) c.put-factor-labels.ensures))
-    (puts_as _ _ _ _ _ _ (ap (flat_map label_text) c.as-slice-2.ensures.value) c.put-labels-subdivisions.ensures))
-    (puts_as _ _ _ _ _ _ (ap (flat_map (λ v. parts_text (vec_items v))) c.as-slice-3.ensures.value) c.put-subdivisions-tiles.ensures))
-    (puts_as _ _ _ _ _ _ (ap (flat_map tile_text) c.as-slice-4.ensures.value) c.put-tiles-depth.ensures))
-    c.put-single-seeds.ensures)
-    (puts_as _ _ _ _ _ _ (ap (flat_map (placed_text 80)) c.as-slice-5.ensures.value) c.put-rows.ensures))
+    c.put_single-factor.ensures
+    (puts_as _ _ _ _ _ _ (ap (λ zs. 73 ∷ (flat_map word zs ++ 10 ∷ [])) c.as_slice.ensures.value) c.put_factor-labels.ensures))
+    (puts_as _ _ _ _ _ _ (ap (flat_map label_text) c.as_slice-2.ensures.value) c.put_labels-subdivisions.ensures))
+    (puts_as _ _ _ _ _ _ (ap (flat_map (λ v. parts_text (vec_items v))) c.as_slice-3.ensures.value) c.put_subdivisions-tiles.ensures))
+    (puts_as _ _ _ _ _ _ (ap (flat_map tile_text) c.as_slice-4.ensures.value) c.put_tiles-depth.ensures))
+    c.put_single-seeds.ensures)
+    (puts_as _ _ _ _ _ _ (ap (flat_map (placed_text 80)) c.as_slice-5.ensures.value) c.put_rows.ensures))

@@ -10,12 +10,12 @@ returns-then-length-buffer c =
     let s : Sheet (spelled (numbers c.args.job.now)) c.put-length.new.out c.put-length.result = sheet_of (spelled (numbers c.args.job.now)) _ _ _ (job_short c.args.job.now) c.put-length.ensures in
     (too_short _ _ _ _ s c.if-length-buffer.true, refl)
 
-pub copy-front-requires : goal.copy-front-requires
-copy-front-requires c =
+pub copy_front-requires : goal.copy_front-requires
+copy_front-requires c =
     let s : Sheet (spelled (numbers c.args.job.now)) c.put-length.new.out c.put-length.result = sheet_of (spelled (numbers c.args.job.now)) _ _ _ (job_short c.args.job.now) c.put-length.ensures in
     (c.if-length-buffer.false, s.within)
 
 pub returns : goal.returns
 returns c =
     let s : Sheet (spelled (numbers c.args.job.now)) c.put-length.new.out c.put-length.result = sheet_of (spelled (numbers c.args.job.now)) _ _ _ (job_short c.args.job.now) c.put-length.ensures in
-    (s.place, c.if-length-buffer.false, c.copy-front.ensures ∙ ap (λ x. x ++ drop c.put-length.result c.args.buffer.now) s.bytes)
+    (s.place, c.if-length-buffer.false, c.copy_front.ensures ∙ ap (λ x. x ++ drop c.put-length.result c.args.buffer.now) s.bytes)

@@ -5,11 +5,11 @@ use Rattle.std.proofs.lemmas.List.{take_all}
 use Rattle.lines.proofs.Decimal.{value_step, bound_step, below_power}
 use Rattle.lines.proofs.digits_value.Goals as goal
 
-pub overflow-mul-value : goal.overflow-mul-value
-overflow-mul-value c = let b = below_power _ _ c.loop-b.invariant.1 (omega arith) in search rules
+pub overflow_mul-value : goal.overflow_mul-value
+overflow_mul-value c = let b = below_power _ _ c.loop-b.invariant.1 (omega arith) in search rules
 
-pub overflow-add-value : goal.overflow-add-value
-overflow-add-value c =
+pub overflow_add-value : goal.overflow_add-value
+overflow_add-value c =
     let b = below_power _ _ c.loop-b.invariant.1 (omega arith) in
     let d : IsInRange 48 57 (get_or c.args.s.now c.loop-b.b-index 0) = search rules in
     search rules

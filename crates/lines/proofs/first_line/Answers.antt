@@ -6,19 +6,19 @@ use Rattle.lines.specs.Spelling.{word, Words}
 use Rattle.lines.proofs.Fronted.{spelt_cut, spelt_front, spelt_from, no_words}
 use Rattle.lines.proofs.first_line.Goals as goal
 
-pub returns-in-default : goal.returns-in-default
-returns-in-default c _ a zs rest s = c.in-default.ensures (byte a ∷ flat_map word zs) rest (spelt_cut _ a zs rest s.whole)
+pub returns-in_default : goal.returns-in_default
+returns-in_default c _ a zs rest s = c.in_default.ensures (byte a ∷ flat_map word zs) rest (spelt_cut _ a zs rest s.whole)
 
-pub returns-in-default-kind-of : goal.returns-in-default-kind-of
-returns-in-default-kind-of c _ a zs rest s = c.in-default-kind-of.ensures (a, flat_map word zs, spelt_front _ _ _ a zs rest c.in-Some.ensures s)
+pub returns-in_default-kind_of : goal.returns-in_default-kind_of
+returns-in_default-kind_of c _ a zs rest s = c.in_default-kind_of.ensures (a, flat_map word zs, spelt_front _ _ _ a zs rest c.in-Some.ensures s)
 
-pub returns-in-err-found : goal.returns-in-err-found
-returns-in-err-found c =
-    let p = err_from_is_err_and c.from-residual.result c.from-residual.ensures.1 in
+pub returns-in_err-found : goal.returns-in_err-found
+returns-in_err-found c =
+    let p = err_from_is_err_and c.from_residual.result c.from_residual.ensures.1 in
     rw (p.1, p.2) (λ h a zs rest s.
-    no_words _ _ a zs c.in-Some-kind-of.ensures
-    (λ ys w. c.in-err-found.ensures h ys (subst (λ l. Words l ys) (sym c.rest.ensures) w))
+    no_words _ _ a zs c.in-Some-kind_of.ensures
+    (λ ys w. c.in_err-found.ensures h ys (subst (λ l. Words l ys) (sym c.rest.ensures) w))
     s.short (spelt_front _ _ _ a zs rest c.in-Some.ensures s))
 
 pub returns : goal.returns
-returns c = spelt_from _ _ _ _ _ c.in-Some.ensures c.in-Some-kind-of.ensures (subst (λ l. Words l (vec_items c.in-ok-found.found)) c.rest.ensures c.in-ok-found.ensures)
+returns c = spelt_from _ _ _ _ _ c.in-Some.ensures c.in-Some-kind_of.ensures (subst (λ l. Words l (vec_items c.in_ok-found.found)) c.rest.ensures c.in_ok-found.ensures)

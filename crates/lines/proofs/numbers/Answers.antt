@@ -2,8 +2,8 @@ use Rattle.std.proofs.Common.{◌≡◌, [], ◌∷◌, ◌++◌, vec_items, sym
 use Rattle.lines.proofs.Sequence.{Upto, upto_more, upto_all, upto_stuck, word_shorter}
 use Rattle.lines.proofs.numbers.Goals as goal
 
-pub returns-in-default : goal.returns-in-default
-returns-in-default c _ = upto_stuck _ _ _ c.loop-rest.invariant c.loop-rest-test.true c.in-default.ensures
+pub returns-in_default : goal.returns-in_default
+returns-in_default c _ = upto_stuck _ _ _ c.loop-rest.invariant c.loop-rest-test.true c.in_default.ensures
 
 pub loop-rest-smaller : goal.loop-rest-smaller
 loop-rest-smaller c = word_shorter _ _ _ c.in-Some.ensures

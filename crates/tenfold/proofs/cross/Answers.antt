@@ -2,8 +2,8 @@ use Rattle.std.proofs.Common.{arith}
 use Rattle.rings.proofs.Bounds.{linear, times_is, times_small}
 use Rattle.tenfold.proofs.cross.Goals as goal
 
-pub overflow-sub-result : goal.overflow-sub-result
-overflow-sub-result c =
+pub overflow_sub-result : goal.overflow_sub-result
+overflow_sub-result c =
     let s0 = times_small c.args.a c.args.d c.times.ensures.small c.requires.0 c.requires.1.1.1 in
     let s1 = times_small c.args.b c.args.c c.times-2.ensures.small c.requires.1.0 c.requires.1.1.0 in
     omega (arith, linear)

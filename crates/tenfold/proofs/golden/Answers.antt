@@ -11,4 +11,4 @@ returns c =
     let e = c.args.c3 in
     let b : back (back d +ℤ back e) ≡ d +ℤ e = omega (arith, ints) in
     let u : back (back (back a +ℤ back a) +ℤ back (back d +ℤ back e)) ≡ a +ℤ a +ℤ (d +ℤ e) = omega (arith, ints) in
-    to_z-of_z w8 _ (record { sfits = c.surd.type-inv }) ∙ c.surd.ensures ∙ ap₂ (surd_sign 5) u b
+    to_z-of_z w8 _ (record { sfits = c.surd.type_inv }) ∙ c.surd.ensures ∙ ap₂ (surd_sign 5) u b

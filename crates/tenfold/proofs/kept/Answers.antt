@@ -1,4 +1,4 @@
 use Rattle.tenfold.proofs.kept.Goals as goal
 
-pub invariant-of-result : goal.invariant-of-result
-invariant-of-result c = (c.if-on-plane.ensures.yes tt, (c.if-on-plane-2.ensures.yes tt, (c.if-on-plane-3.ensures.yes tt, (c.if-on-plane-4.ensures.yes tt, tt))))
+pub invariant_of-result : goal.invariant_of-result
+invariant_of-result c = (c.if-on_plane.ensures.yes tt, (c.if-on_plane-2.ensures.yes tt, (c.if-on_plane-3.ensures.yes tt, (c.if-on_plane-4.ensures.yes tt, tt))))

@@ -2,14 +2,14 @@ use Rattle.std.proofs.Common.{◌+ℤ◌, ◌∙◌, ap₂, arith}
 use Rattle.rings.proofs.Bounds.{linear, cross_is, add3}
 use Rattle.tenfold.proofs.near_cross.Goals as goal
 
-pub overflow-add-result : goal.overflow-add-result
-overflow-add-result c =
+pub overflow_add-result : goal.overflow_add-result
+overflow_add-result c =
     let s0 = c.cross.ensures.small in
     let s1 = c.cross-2.ensures.small in
     omega (arith, linear)
 
-pub overflow-add-result-2 : goal.overflow-add-result-2
-overflow-add-result-2 c =
+pub overflow_add-result-2 : goal.overflow_add-result-2
+overflow_add-result-2 c =
     let s0 = c.cross.ensures.small in
     let s1 = c.cross-2.ensures.small in
     let s2 = c.cross-3.ensures.small in

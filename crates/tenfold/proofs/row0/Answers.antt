@@ -2,14 +2,14 @@ use Rattle.std.proofs.Common.{arith}
 use Rattle.rings.proofs.Bounds.{linear, times_is, times_small}
 use Rattle.tenfold.proofs.row0.Goals as goal
 
-pub overflow-sub-result : goal.overflow-sub-result
-overflow-sub-result c =
+pub overflow_sub-result : goal.overflow_sub-result
+overflow_sub-result c =
     let s0 = times_small c.args.x.c0 c.args.y.c0 c.times.ensures.small c.args.x.near0 c.args.y.near0 in
     let s1 = times_small c.args.x.c2 c.args.y.c3 c.times-2.ensures.small c.args.x.near2 c.args.y.near3 in
     omega (arith, linear)
 
-pub overflow-sub-result-2 : goal.overflow-sub-result-2
-overflow-sub-result-2 c =
+pub overflow_sub-result-2 : goal.overflow_sub-result-2
+overflow_sub-result-2 c =
     let s0 = times_small c.args.x.c0 c.args.y.c0 c.times.ensures.small c.args.x.near0 c.args.y.near0 in
     let s1 = times_small c.args.x.c2 c.args.y.c3 c.times-2.ensures.small c.args.x.near2 c.args.y.near3 in
     let s2 = times_small c.args.x.c3 c.args.y.c2 c.times-3.ensures.small c.args.x.near3 c.args.y.near2 in

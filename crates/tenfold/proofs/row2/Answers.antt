@@ -2,14 +2,14 @@ use Rattle.std.proofs.Common.{arith}
 use Rattle.rings.proofs.Bounds.{linear, times_is, times_small}
 use Rattle.tenfold.proofs.row2.Goals as goal
 
-pub overflow-add-result : goal.overflow-add-result
-overflow-add-result c =
+pub overflow_add-result : goal.overflow_add-result
+overflow_add-result c =
     let s0 = times_small c.args.x.c0 c.args.y.c2 c.times.ensures.small c.args.x.near0 c.args.y.near2 in
     let s1 = times_small c.args.x.c1 c.args.y.c1 c.times-2.ensures.small c.args.x.near1 c.args.y.near1 in
     omega (arith, linear)
 
-pub overflow-add-result-2 : goal.overflow-add-result-2
-overflow-add-result-2 c =
+pub overflow_add-result-2 : goal.overflow_add-result-2
+overflow_add-result-2 c =
     let s0 = times_small c.args.x.c0 c.args.y.c2 c.times.ensures.small c.args.x.near0 c.args.y.near2 in
     let s1 = times_small c.args.x.c1 c.args.y.c1 c.times-2.ensures.small c.args.x.near1 c.args.y.near1 in
     let s2 = times_small c.args.x.c2 c.args.y.c0 c.times-3.ensures.small c.args.x.near2 c.args.y.near0 in

@@ -2,20 +2,20 @@ use Rattle.std.proofs.Common.{◌+ℤ◌, ◌∙◌, ap₂, arith}
 use Rattle.rings.proofs.Bounds.{linear, times_is, times_small, add4}
 use Rattle.tenfold.proofs.row3.Goals as goal
 
-pub overflow-add-outer : goal.overflow-add-outer
-overflow-add-outer c =
+pub overflow_add-outer : goal.overflow_add-outer
+overflow_add-outer c =
     let s0 = times_small c.args.x.c0 c.args.y.c3 c.times.ensures.small c.args.x.near0 c.args.y.near3 in
     let s1 = times_small c.args.x.c3 c.args.y.c0 c.times-2.ensures.small c.args.x.near3 c.args.y.near0 in
     omega (arith, linear)
 
-pub overflow-add-inner : goal.overflow-add-inner
-overflow-add-inner c =
+pub overflow_add-inner : goal.overflow_add-inner
+overflow_add-inner c =
     let s2 = times_small c.args.x.c1 c.args.y.c2 c.times-3.ensures.small c.args.x.near1 c.args.y.near2 in
     let s3 = times_small c.args.x.c2 c.args.y.c1 c.times-4.ensures.small c.args.x.near2 c.args.y.near1 in
     omega (arith, linear)
 
-pub overflow-add-result : goal.overflow-add-result
-overflow-add-result c =
+pub overflow_add-result : goal.overflow_add-result
+overflow_add-result c =
     let s0 = times_small c.args.x.c0 c.args.y.c3 c.times.ensures.small c.args.x.near0 c.args.y.near3 in
     let s1 = times_small c.args.x.c3 c.args.y.c0 c.times-2.ensures.small c.args.x.near3 c.args.y.near0 in
     let s2 = times_small c.args.x.c1 c.args.y.c2 c.times-3.ensures.small c.args.x.near1 c.args.y.near2 in

@@ -5,8 +5,8 @@ use Rattle.rings.specs.Plane.{height_bound}
 use Rattle.rings.proofs.Bounds.{back, square_is, square_fits, square_high}
 use Rattle.tenfold.proofs.squared.Goals as goal
 
-pub overflow-mul-result : goal.overflow-mul-result
-overflow-mul-result c = subst (SFits w64) (sym (square_is c.args.u c.ranges.u)) (square_fits c.args.u c.requires)
+pub overflow_mul-result : goal.overflow_mul-result
+overflow_mul-result c = subst (SFits w64) (sym (square_is c.args.u c.ranges.u)) (square_fits c.args.u c.requires)
 
 pub returns : goal.returns
 returns c =

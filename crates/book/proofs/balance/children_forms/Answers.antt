@@ -5,13 +5,13 @@ use Rattle.outlines.specs.Working.{KeptForms}
 use Rattle.outlines.proofs.Gather.{made_weaker, handed_on}
 use Rattle.book.proofs.balance.children_forms.Goals as goal
 
-pub returns-in-err-chain : goal.returns-in-err-chain
-returns-in-err-chain g c = handed_on c.from-residual.result _ _ _ _ (λ k. k.0) c.in-err-chain.ensures.is c.from-residual.ensures.1
+pub returns-in_err-chain : goal.returns-in_err-chain
+returns-in_err-chain g c = handed_on c.from_residual.result _ _ _ _ (λ k. k.0) c.in_err-chain.ensures.is c.from_residual.ensures.1
 
 pub returns : goal.returns
 returns g c =
     let E = g.R.Ring.exact in let v = g.R.Ring.value in
     let B = book_view E v c.args.book.now in
-    let h = c.in-ok-chain.ensures.is in
-    let s = ap (chain_view E v) c.as-slice.ensures.value ∙ h.0 in
-    made_weaker c.canonical-chain.result _ _ _ _ (λ _ e. e ∙ ap (map (canonical E B)) s) (λ k. (h.1, subst (KeptForms E B) s k)) (λ k. subst (KeptForms E B) (sym s) k.1) c.canonical-chain.ensures
+    let h = c.in_ok-chain.ensures.is in
+    let s = ap (chain_view E v) c.as_slice.ensures.value ∙ h.0 in
+    made_weaker c.canonical_chain.result _ _ _ _ (λ _ e. e ∙ ap (map (canonical E B)) s) (λ k. (h.1, subst (KeptForms E B) s k)) (λ k. subst (KeptForms E B) (sym s) k.1) c.canonical_chain.ensures

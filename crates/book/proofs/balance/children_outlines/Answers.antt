@@ -12,9 +12,9 @@ pub returns-then-t-len : goal.returns-then-t-len
 returns-then-t-len g c =
     let E = g.R.Ring.exact in let v = g.R.Ring.value in
     let B = book_view E v c.args.book.now in
-    let s = ap (map (placement_view E v)) c.as-slice.ensures.value
+    let s = ap (map (placement_view E v)) c.as_slice.ensures.value
     ∙ sym (ap (λ t. t.children) (tile_is E v c.args.book.now c.args.t _ c.index.result.now c.len.ensures c.if-t-len.true c.index.ensures)) in
-    made_weaker c.outlines-at.result _ _ _ _ (λ _ e. e ∙ ap (outlines E B) s) (subst (All (KeptPlacedOutline E B)) s) (subst (All (KeptPlacedOutline E B)) (sym s)) c.outlines-at.ensures
+    made_weaker c.outlines_at.result _ _ _ _ (λ _ e. e ∙ ap (outlines E B) s) (subst (All (KeptPlacedOutline E B)) s) (subst (All (KeptPlacedOutline E B)) (sym s)) c.outlines_at.ensures
 
 pub returns-else-t-len : goal.returns-else-t-len
 unfolding outlines flat_map

@@ -3,23 +3,23 @@ use Rattle.rings.specs.Plane.{OnPlane}
 use Rattle.book.proofs.Tests.{test_broke_off, ended}
 use Rattle.book.proofs.labels.length_fits.Goals as goal
 
-pub returns-in-err-real : goal.returns-in-err-real
-returns-in-err-real g c =
-    let E = g.R.Ring.exact in let l = c.length-of-length.ensures in
-    test_broke_off c.from-residual.result _ _ _ _ c.from-residual.ensures.1 (λ k. subst (λ z. OnPlane E (E.conj z)) (sym l) k.conjugate) c.in-err-real.ensures.is
+pub returns-in_err-real : goal.returns-in_err-real
+returns-in_err-real g c =
+    let E = g.R.Ring.exact in let l = c.length_of-length.ensures in
+    test_broke_off c.from_residual.result _ _ _ _ c.from_residual.ensures.1 (λ k. subst (λ z. OnPlane E (E.conj z)) (sym l) k.conjugate) c.in_err-real.ensures.is
 
 pub returns-then-not-real : goal.returns-then-not-real
 returns-then-not-real g c =
-    let E = g.R.Ring.exact in let l = c.length-of-length.ensures in
-    record { is = λ h. true≢false (sym (c.in-ok-real.ensures.is.0.1 (subst (λ z. E.conj z ≡ z) (sym l) h.real)) ∙ c.if-not-real.true) }
+    let E = g.R.Ring.exact in let l = c.length_of-length.ensures in
+    record { is = λ h. true≢false (sym (c.in_ok-real.ensures.is.0.1 (subst (λ z. E.conj z ≡ z) (sym l) h.real)) ∙ c.if-not-real.true) }
 
 pub returns : goal.returns
 returns g c =
-    let E = g.R.Ring.exact in let l = c.length-of-length.ensures in
-    let real = c.in-ok-real.ensures.is in
-    ended c.is-positive.result _ _ _ _
+    let E = g.R.Ring.exact in let l = c.length_of-length.ensures in
+    let real = c.in_ok-real.ensures.is in
+    ended c.is_positive.result _ _ _ _
     (λ d. record { real = subst (λ z. E.conj z ≡ z) l (real.0.0 c.if-not-real.false); above_zero = subst (λ z. E.height (E.mul E.zeta z) ≡ pos 1) l d })
     (λ h. subst (λ z. E.height (E.mul E.zeta z) ≡ pos 1) (sym l) h.above_zero)
     (λ k. record { conjugate = subst (λ z. OnPlane E (E.conj z)) l real.1; raised = subst (λ z. OnPlane E (E.mul E.zeta z)) l k })
     (λ k. subst (λ z. OnPlane E (E.mul E.zeta z)) (sym l) k.raised)
-    c.is-positive.ensures
+    c.is_positive.ensures

@@ -10,12 +10,12 @@ pub returns-then-a-b : goal.returns-then-a-b
 unfolding turned_part
 returns-then-a-b g c = (λ e. absurd (false≢true e), λ e. absurd (c.if-a-b.true (ap (λ p. p.label) e)))
 
-pub returns-then-is-arrowed : goal.returns-then-is-arrowed
-returns-then-is-arrowed g c =
+pub returns-then-is_arrowed : goal.returns-then-is_arrowed
+returns-then-is_arrowed g c =
     let E = g.R.Ring.exact in let B = book_view E g.R.Ring.value c.args.book.now in
-    turns E B (part_of c.args.a) (part_of c.args.b) c.if-a-b.false c.if-is-arrowed.ensures
+    turns E B (part_of c.args.a) (part_of c.args.b) c.if-a-b.false c.if-is_arrowed.ensures
 
-pub returns-else-is-arrowed : goal.returns-else-is-arrowed
-returns-else-is-arrowed g c =
+pub returns-else-is_arrowed : goal.returns-else-is_arrowed
+returns-else-is_arrowed g c =
     let E = g.R.Ring.exact in let B = book_view E g.R.Ring.value c.args.book.now in
-    stays E B (part_of c.args.a) (part_of c.args.b) c.if-a-b.false c.if-is-arrowed.ensures
+    stays E B (part_of c.args.a) (part_of c.args.b) c.if-a-b.false c.if-is_arrowed.ensures

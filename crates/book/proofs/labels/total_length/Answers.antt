@@ -21,16 +21,16 @@ loop-i-init g c =
 pub loop-i-preserved : goal.loop-i-preserved
 loop-i-preserved g c =
     let E = g.R.Ring.exact in let B = book_view E g.R.Ring.value c.args.book.now in
-    let h = c.in-ok-total.ensures.is in
+    let h = c.in_ok-total.ensures.is in
     let e = ap₂ E.add c.length_of.ensures c.loop-i.invariant.0 ∙ sym (lengths_more E B c.args.parts.now c.loop-i.i blank (omega arith) (omega arith)) in
     (h.0 ∙ e, kept_down E B c.args.parts.now blank c.loop-i.i (omega arith) (omega arith) (subst (OnPlane E) e h.1) c.loop-i.invariant.1)
 
-pub returns-in-err-total : goal.returns-in-err-total
-returns-in-err-total g c =
+pub returns-in_err-total : goal.returns-in_err-total
+returns-in_err-total g c =
     let E = g.R.Ring.exact in let B = book_view E g.R.Ring.value c.args.book.now in
     let e = ap₂ E.add c.length_of.ensures c.loop-i.invariant.0 ∙ sym (lengths_more E B c.args.parts.now c.loop-i.i blank (omega arith) (omega arith)) in
-    broke_off c.from-residual.result _ _ _ _ c.from-residual.ensures.1
-    (λ k. subst (OnPlane E) (sym e) (kept_at E B c.args.parts.now (c.loop-i.i - 1) (omega arith) k)) c.in-err-total.ensures.is
+    broke_off c.from_residual.result _ _ _ _ c.from_residual.ensures.1
+    (λ k. subst (OnPlane E) (sym e) (kept_at E B c.args.parts.now (c.loop-i.i - 1) (omega arith) k)) c.in_err-total.ensures.is
 
 pub returns : goal.returns
 returns g c =

@@ -3,8 +3,8 @@ use Rattle.std.proofs.lemmas.Int.{ints}
 use Rattle.book.specs.Differences.{gap}
 use Rattle.book.proofs.nets.excess.Goals as goal
 
-pub overflow-sub-result : goal.overflow-sub-result
-overflow-sub-result g c = omega (arith, ints)
+pub overflow_sub-result : goal.overflow_sub-result
+overflow_sub-result g c = omega (arith, ints)
 
 pub returns : goal.returns
 unfolding gap

@@ -18,18 +18,18 @@ pub loop-s-preserved : goal.loop-s-preserved
 unfolding none
 loop-s-preserved g c =
     let E = g.R.Ring.exact in
-    let h = c.in-ok-next.ensures.is in
+    let h = c.in_ok-next.ensures.is in
     goes_on E (book_view E g.R.Ring.value c.args.book.now) c.args.steps.now g.met.R.Ring.lawful c.loop-s.s-index none _ _ _ _ c.loop-s-test.true h.0 c.loop-s.invariant h.1
-    (g.met.R.Ring.tied.sum _ _ _ c.sum-swept.ensures ∙ ap (totals.sum (g.R.Ring.total c.loop-s.swept)) c.sweep.ensures) (g.met.R.Ring.sweeps_small c.loop-s.end c.in-ok-next.next)
+    (g.met.R.Ring.tied.sum _ _ _ c.sum-swept.ensures ∙ ap (totals.sum (g.R.Ring.total c.loop-s.swept)) c.sweep.ensures) (g.met.R.Ring.sweeps_small c.loop-s.end c.in_ok-next.next)
 
 pub returns : goal.returns
 returns g c =
     let E = g.R.Ring.exact in
     record { is = all_round E (book_view E g.R.Ring.value c.args.book.now) c.args.steps.now g.met.R.Ring.lawful c.loop-s.s-index _ _ c.loop-s-test.false c.loop-s.invariant }
 
-pub returns-in-err-next : goal.returns-in-err-next
+pub returns-in_err-next : goal.returns-in_err-next
 unfolding none
-returns-in-err-next g c =
+returns-in_err-next g c =
     let E = g.R.Ring.exact in
-    broke_off c.from-residual.result _ _ _ _ c.from-residual.ensures.1
-    (stops_here E (book_view E g.R.Ring.value c.args.book.now) c.args.steps.now g.met.R.Ring.lawful c.loop-s.s-index none _ _ c.loop-s-test.true c.loop-s.invariant) c.in-err-next.ensures.is
+    broke_off c.from_residual.result _ _ _ _ c.from_residual.ensures.1
+    (stops_here E (book_view E g.R.Ring.value c.args.book.now) c.args.steps.now g.met.R.Ring.lawful c.loop-s.s-index none _ _ c.loop-s-test.true c.loop-s.invariant) c.in_err-next.ensures.is

@@ -16,5 +16,5 @@ returns g c =
     let E = g.R.Ring.exact in let v = g.R.Ring.value in let x = c.args.x.now in
     let B = book_view E v c.args.book.now in
     let h : as_it_stands E B (edge_view E v x.edge) ≡ false = sym c.stands.ensures ∙ c.if-stands.false in
-    let k = c.in-ok-start.ensures.is in
+    let k = c.in_ok-start.ensures.is in
     record { is = (entry_same E _ _ _ _ _ _ _ c.opposed.ensures k.0 (count_not x.back) ∙ sym (turns E B x.edge.label x.edge.direction _ (count_of x.back) h), λ _. k.1) }

@@ -9,6 +9,6 @@ pub returns : goal.returns
 unfolding along
 returns g c =
     let E = g.R.Ring.exact in
-    let k = c.in-ok-along.ensures.is in
+    let k = c.in_ok-along.ensures.is in
     let l = ap (E.mul (power E c.args.j)) c.length_of.ensures in
     last_one E g.R.Ring.value c.add.result _ _ _ (ap (E.add _) (k.0 ∙ l)) (λ y. (subst (OnPlane E) l k.1, y)) (λ k. k.1) c.add.ensures

@@ -3,14 +3,14 @@ use Rattle.exact.proofs.Coefficients.{pair_same}
 use Rattle.rings.proofs.Bounds.{recast, linear, times_is, times_small}
 use Rattle.gaussian.proofs.GaussianRing.mul.Goals as goal
 
-pub overflow-sub-times : goal.overflow-sub-times
-overflow-sub-times c =
+pub overflow_sub-times : goal.overflow_sub-times
+overflow_sub-times c =
     let s0 = times_small c.args.self.c0 c.args.other.c0 c.times.ensures.small c.args.self.near0 c.args.other.near0 in
     let s1 = times_small c.args.self.c1 c.args.other.c1 c.times-2.ensures.small c.args.self.near1 c.args.other.near1 in
     omega (arith, linear)
 
-pub overflow-add-times : goal.overflow-add-times
-overflow-add-times c =
+pub overflow_add-times : goal.overflow_add-times
+overflow_add-times c =
     let s2 = times_small c.args.self.c0 c.args.other.c1 c.times-3.ensures.small c.args.self.near0 c.args.other.near1 in
     let s3 = times_small c.args.self.c1 c.args.other.c0 c.times-4.ensures.small c.args.self.near1 c.args.other.near0 in
     omega (arith, linear)

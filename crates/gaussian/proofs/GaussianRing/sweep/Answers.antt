@@ -6,14 +6,14 @@ use Rattle.exact.proofs.GaussianLaws.{sweep_by_cross}
 use Rattle.rings.proofs.Bounds.{linear, times_is, times_small}
 use Rattle.gaussian.proofs.GaussianRing.sweep.Goals as goal
 
-pub overflow-sub-cross : goal.overflow-sub-cross
-overflow-sub-cross c =
+pub overflow_sub-cross : goal.overflow_sub-cross
+overflow_sub-cross c =
     let s0 = times_small c.args.self.c0 c.args.to.c1 c.times.ensures.small c.args.self.near0 c.args.to.near1 in
     let s1 = times_small c.args.self.c1 c.args.to.c0 c.times-2.ensures.small c.args.self.near1 c.args.to.near0 in
     omega (arith, linear)
 
-pub overflow-add-result : goal.overflow-add-result
-overflow-add-result c =
+pub overflow_add-result : goal.overflow_add-result
+overflow_add-result c =
     let s0 = times_small c.args.self.c0 c.args.to.c1 c.times.ensures.small c.args.self.near0 c.args.to.near1 in
     let s1 = times_small c.args.self.c1 c.args.to.c0 c.times-2.ensures.small c.args.self.near1 c.args.to.near0 in
     omega (arith, linear)

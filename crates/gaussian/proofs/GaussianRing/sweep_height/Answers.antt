@@ -8,4 +8,4 @@ returns c =
     let s = c.args.s in
     let f0 : SFits w64 s.c0 = search rules in
     let f1 : SFits w64 s.c1 = search rules in
-    height_recast c.height-of.ensures (pair_same _ _ (back_wrapped s.c0 f0) (back_wrapped s.c1 f1))
+    height_recast c.height_of.ensures (pair_same _ _ (back_wrapped s.c0 f0) (back_wrapped s.c1 f1))

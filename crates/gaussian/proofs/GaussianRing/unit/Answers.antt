@@ -4,7 +4,7 @@ use Rattle.exact.specs.Models.{gaussian}
 use Rattle.exact.proofs.GaussianLaws.{gaussian_laws}
 use Rattle.exact.proofs.Powers.{power_at}
 use Rattle.gaussian.proofs.GaussianRing.unit.Goals as goal
-use Rattle.gaussian.proofs.GaussianRing.unit.Goals.{in-0, in-1, in-2, in-default}
+use Rattle.gaussian.proofs.GaussianRing.unit.Goals.{in-0, in-1, in-2, in_default}
 
 abbrev made : ℤ × (ℤ × Unit {0}) → Pair ℤ
 made p = record { c0 = p.0; c1 = p.1.0 }
@@ -15,5 +15,5 @@ returns c =
       | in-0 w ↦ ap made w.result-is ∙ power_at gaussian gaussian_laws c.args.k 0 w.in-0.is
       | in-1 w ↦ ap made w.result-is ∙ power_at gaussian gaussian_laws c.args.k 1 w.in-1.is
       | in-2 w ↦ ap made w.result-is ∙ power_at gaussian gaussian_laws c.args.k 2 w.in-2.is
-      | in-default w ↦ ap made w.result-is ∙ power_at gaussian gaussian_laws c.args.k 3 (omega arith)
+      | in_default w ↦ ap made w.result-is ∙ power_at gaussian gaussian_laws c.args.k 3 (omega arith)
     ]

@@ -16,18 +16,18 @@ returns-then-job-rank g c = λ o.
     let E = g.R.Ring.exact in let v = g.R.Ring.value in
     c.if-job-rank.true (sym (rank_is E g.met.R.Ring.lawful v c.args.job.now) ∙ o.1 ∙ sym c.rank.ensures)
 
-pub returns-in-err-check : goal.returns-in-err-check
-returns-in-err-check g c =
+pub returns-in_err-check : goal.returns-in_err-check
+returns-in_err-check g c =
     let E = g.R.Ring.exact in let v = g.R.Ring.value in let L = g.met.R.Ring.lawful in
     let j = c.args.job.now in
     let o : OfTheRing E (job_numbers E v j) = (order_is E L v j ∙ c.if-job-order.false ∙ c.order.ensures, rank_is E L v j ∙ c.if-job-rank.false ∙ c.rank.ensures) in
-    handed E v (job_numbers E v j) c.from-residual.result _ _ _ (sym (book_is E L v j)) o c.in-err-check.ensures.first.is c.in-err-check.ensures.decides c.from-residual.ensures.1
+    handed E v (job_numbers E v j) c.from_residual.result _ _ _ (sym (book_is E L v j)) o c.in_err-check.ensures.first.is c.in_err-check.ensures.decides c.from_residual.ensures.1
 
 pub returns : goal.returns
 returns g c =
     let E = g.R.Ring.exact in let v = g.R.Ring.value in let L = g.met.R.Ring.lawful in
     let j = c.args.job.now in
-    let d = c.in-ok-check.ensures.decides in
+    let d = c.in_ok-check.ensures.decides in
     let e = sym (book_is E L v j) in
     record {
       judged = record {

@@ -5,4 +5,4 @@ use Rattle.digits.proofs.Writes.{puts_then, puts_as}
 use Rattle.job_texts.proofs.row_lines.put_label.Goals as goal
 
 pub returns : goal.returns
-returns c = puts_as _ _ _ _ _ _ refl (puts_then _ _ _ _ _ _ _ _ (puts_then _ _ _ _ _ _ _ _ (puts_then _ _ _ _ _ _ _ _ c.put-byte-kind.ensures c.put-mark-length.ensures) (puts_as _ _ _ _ _ _ (ap (flat_map word) c.as-slice.ensures.value) c.put-numbers-end.ensures)) c.put-byte.ensures)
+returns c = puts_as _ _ _ _ _ _ refl (puts_then _ _ _ _ _ _ _ _ (puts_then _ _ _ _ _ _ _ _ (puts_then _ _ _ _ _ _ _ _ c.put_byte-kind.ensures c.put_mark-length.ensures) (puts_as _ _ _ _ _ _ (ap (flat_map word) c.as_slice.ensures.value) c.put_numbers-end.ensures)) c.put_byte.ensures)

@@ -5,4 +5,4 @@ use Rattle.job_texts.proofs.Texts.{parts_end}
 use Rattle.job_texts.proofs.row_lines.put_part.Goals as goal
 
 pub returns : goal.returns
-returns c = puts_as _ _ _ _ _ _ (parts_end (word (pos c.args.part.label)) (word (mark c.args.part.forward))) (puts_then _ _ _ _ _ _ _ _ c.put-index-sense.ensures c.put-mark.ensures)
+returns c = puts_as _ _ _ _ _ _ (parts_end (word (pos c.args.part.label)) (word (mark c.args.part.forward))) (puts_then _ _ _ _ _ _ _ _ c.put_index-sense.ensures c.put_mark.ensures)

@@ -6,4 +6,4 @@ use Rattle.job_texts.proofs.Texts.{placed_end}
 use Rattle.job_texts.proofs.row_lines.put_placed.Goals as goal
 
 pub returns : goal.returns
-returns c = puts_as _ _ _ _ _ _ (placed_end c.args.letter (word (pos c.args.row.now.tile)) (word (pos c.args.row.now.turn)) (word (mark c.args.row.now.mirrored)) (flat_map word (vec_items c.args.row.now.place))) (puts_then _ _ _ _ _ _ _ _ (puts_then _ _ _ _ _ _ _ _ (puts_then _ _ _ _ _ _ _ _ (puts_then _ _ _ _ _ _ _ _ (puts_then _ _ _ _ _ _ _ _ c.put-byte-tile.ensures c.put-index-turn.ensures) (puts_as _ _ _ _ _ _ (ap (λ n. 32 ∷ decimal n) c.from.ensures) c.put-index-mirrored.ensures)) c.put-mark-place.ensures) (puts_as _ _ _ _ _ _ (ap (flat_map word) c.as-slice.ensures.value) c.put-numbers-end.ensures)) c.put-byte.ensures)
+returns c = puts_as _ _ _ _ _ _ (placed_end c.args.letter (word (pos c.args.row.now.tile)) (word (pos c.args.row.now.turn)) (word (mark c.args.row.now.mirrored)) (flat_map word (vec_items c.args.row.now.place))) (puts_then _ _ _ _ _ _ _ _ (puts_then _ _ _ _ _ _ _ _ (puts_then _ _ _ _ _ _ _ _ (puts_then _ _ _ _ _ _ _ _ (puts_then _ _ _ _ _ _ _ _ c.put_byte-tile.ensures c.put_index-turn.ensures) (puts_as _ _ _ _ _ _ (ap (λ n. 32 ∷ decimal n) c.from.ensures) c.put_index-mirrored.ensures)) c.put_mark-place.ensures) (puts_as _ _ _ _ _ _ (ap (flat_map word) c.as_slice.ensures.value) c.put_numbers-end.ensures)) c.put_byte.ensures)

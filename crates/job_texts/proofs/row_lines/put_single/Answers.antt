@@ -3,4 +3,4 @@ use Rattle.digits.proofs.Writes.{puts_then, puts_as}
 use Rattle.job_texts.proofs.row_lines.put_single.Goals as goal
 
 pub returns : goal.returns
-returns c = puts_as _ _ _ _ _ _ refl (puts_then _ _ _ _ _ _ _ _ (puts_then _ _ _ _ _ _ _ _ c.put-byte-number.ensures (puts_as _ _ _ _ _ _ (ap (λ n. 32 ∷ decimal n) c.from.ensures) c.put-index-end.ensures)) c.put-byte.ensures)
+returns c = puts_as _ _ _ _ _ _ refl (puts_then _ _ _ _ _ _ _ _ (puts_then _ _ _ _ _ _ _ _ c.put_byte-number.ensures (puts_as _ _ _ _ _ _ (ap (λ n. 32 ∷ decimal n) c.from.ensures) c.put_index-end.ensures)) c.put_byte.ensures)

@@ -5,4 +5,4 @@ use Rattle.job_texts.proofs.Texts.{steps_end}
 use Rattle.job_texts.proofs.row_lines.put_step.Goals as goal
 
 pub returns : goal.returns
-returns c = puts_as _ _ _ _ _ _ (steps_end (word (pos c.args.step.label)) (word (mark c.args.step.forward)) (word (pos c.args.step.direction))) (puts_then _ _ _ _ _ _ _ _ (puts_then _ _ _ _ _ _ _ _ c.put-index-sense.ensures c.put-mark-direction.ensures) (puts_as _ _ _ _ _ _ (ap (λ n. 32 ∷ decimal n) c.from.ensures) c.put-index.ensures))
+returns c = puts_as _ _ _ _ _ _ (steps_end (word (pos c.args.step.label)) (word (mark c.args.step.forward)) (word (pos c.args.step.direction))) (puts_then _ _ _ _ _ _ _ _ (puts_then _ _ _ _ _ _ _ _ c.put_index-sense.ensures c.put_mark-direction.ensures) (puts_as _ _ _ _ _ _ (ap (λ n. 32 ∷ decimal n) c.from.ensures) c.put_index.ensures))

@@ -4,7 +4,7 @@ use Rattle.digits.proofs.Writes.{puts_as, puts_more, puts_all}
 use Rattle.job_texts.proofs.row_lines.put_subdivisions.Goals as goal
 
 pub loop-parts-preserved : goal.loop-parts-preserved
-loop-parts-preserved c = puts_more (λ v. parts_text (vec_items v)) c.parts-item.result _ _ _ _ _ _ _ _ _ c.loop-parts-test.true c.parts-item.is c.loop-parts.invariant (puts_as _ _ _ _ _ _ (ap parts_text c.as-slice.ensures.value) c.put-parts-next.ensures)
+loop-parts-preserved c = puts_more (λ v. parts_text (vec_items v)) c.parts-item.result _ _ _ _ _ _ _ _ _ c.loop-parts-test.true c.parts-item.is c.loop-parts.invariant (puts_as _ _ _ _ _ _ (ap parts_text c.as_slice.ensures.value) c.put_parts-next.ensures)
 
 pub returns : goal.returns
 returns c = puts_all (λ v. parts_text (vec_items v)) _ _ _ _ _ _ c.loop-parts-test.false c.loop-parts.invariant

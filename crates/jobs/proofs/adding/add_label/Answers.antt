@@ -11,14 +11,14 @@ use Rattle.jobs.proofs.adding.add_label.Goals as goal
 pub returns-then-len-eq0 : goal.returns-then-len-eq0
 returns-then-len-eq0 c = search (rules, length-map)
 
-pub returns-in-err-label : goal.returns-in-err-label
-returns-in-err-label c =
-    let p = err_from_is_err_and c.from-residual.result c.from-residual.ensures.1 in
+pub returns-in_err-label : goal.returns-in_err-label
+returns-in_err-label c =
+    let p = err_from_is_err_and c.from_residual.result c.from_residual.ensures.1 in
     let place : Place (front c.args.draft.now) letter-L = search (rules, length-map) in
-    rw (p.1, p.2) (unfit_label _ _ _ _ place c.in-err-label.ensures)
+    rw (p.1, p.2) (unfit_label _ _ _ _ place c.in_err-label.ensures)
 
 pub returns : goal.returns
 returns c =
     let place : Place (front c.args.draft.now) letter-L = search (rules, length-map) in
-    let e = ap (map head_of) c.in-ok-push.ensures.items ∙ map_push head_of (vec_items c.args.draft.now.labels) c.in-ok-label.label in
-    (place, (head_of c.in-ok-label.label, c.in-ok-label.ensures.0, c.in-ok-label.ensures.1, ap (set_heads (front c.args.draft.now)) e))
+    let e = ap (map head_of) c.in_ok-push.ensures.items ∙ map_push head_of (vec_items c.args.draft.now.labels) c.in_ok-label.label in
+    (place, (head_of c.in_ok-label.label, c.in_ok-label.ensures.0, c.in_ok-label.ensures.1, ap (set_heads (front c.args.draft.now)) e))

@@ -8,24 +8,24 @@ use Rattle.rows.specs.Rows.{placed_of}
 use Rattle.jobs.proofs.Adds.{unfit_seed, no_tile, set_seeds}
 use Rattle.jobs.proofs.adding.add_seed.Goals as goal
 
-pub returns-then-is-none : goal.returns-then-is-none
-returns-then-is-none c = search (rules, length-map)
+pub returns-then-is_none : goal.returns-then-is_none
+returns-then-is_none c = search (rules, length-map)
 
-pub returns-in-err-seed : goal.returns-in-err-seed
-returns-in-err-seed c =
-    let p = err_from_is_err_and c.from-residual.result c.from-residual.ensures.1 in
+pub returns-in_err-seed : goal.returns-in_err-seed
+returns-in_err-seed c =
+    let p = err_from_is_err_and c.from_residual.result c.from_residual.ensures.1 in
     let place : Place (front c.args.draft.now) letter-P = search (rules, length-map) in
-    rw (p.1, p.2) (unfit_seed _ _ _ _ place c.in-err-seed.ensures)
+    rw (p.1, p.2) (unfit_seed _ _ _ _ place c.in_err-seed.ensures)
 
 pub returns-then-seed-len : goal.returns-then-seed-len
 returns-then-seed-len c =
     let place : Place (front c.args.draft.now) letter-P = search (rules, length-map) in
-    let l : length (front c.args.draft.now).tiles ≤ c.in-ok-seed.seed.tile = search (rules, length-map) in
-    (place, λ g t. no_tile (front c.args.draft.now) g _ (placed_of c.in-ok-seed.seed) c.in-ok-seed.ensures.1 l t)
+    let l : length (front c.args.draft.now).tiles ≤ c.in_ok-seed.seed.tile = search (rules, length-map) in
+    (place, λ g t. no_tile (front c.args.draft.now) g _ (placed_of c.in_ok-seed.seed) c.in_ok-seed.ensures.1 l t)
 
 pub returns : goal.returns
 returns c =
     let place : Place (front c.args.draft.now) letter-P = search (rules, length-map) in
-    let e = ap (map placed_of) c.in-ok-push.ensures.items ∙ map_push placed_of (vec_items c.args.draft.now.seeds) c.in-ok-seed.seed in
-    let l : c.in-ok-seed.seed.tile < length (front c.args.draft.now).tiles = search (rules, length-map) in
-    (place, (placed_of c.in-ok-seed.seed, (l, c.in-ok-seed.ensures.0), c.in-ok-seed.ensures.1, ap (set_seeds (front c.args.draft.now)) e))
+    let e = ap (map placed_of) c.in_ok-push.ensures.items ∙ map_push placed_of (vec_items c.args.draft.now.seeds) c.in_ok-seed.seed in
+    let l : c.in_ok-seed.seed.tile < length (front c.args.draft.now).tiles = search (rules, length-map) in
+    (place, (placed_of c.in_ok-seed.seed, (l, c.in_ok-seed.ensures.0), c.in_ok-seed.ensures.1, ap (set_seeds (front c.args.draft.now)) e))

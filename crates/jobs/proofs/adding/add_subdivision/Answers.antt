@@ -13,16 +13,16 @@ use Rattle.jobs.proofs.adding.add_subdivision.Goals as goal
 pub returns-then-len : goal.returns-then-len
 returns-then-len c = search (rules, length-map)
 
-pub returns-in-err-parts : goal.returns-in-err-parts
-returns-in-err-parts c =
-    let p = err_from_is_err_and c.from-residual.result c.from-residual.ensures.1 in
+pub returns-in_err-parts : goal.returns-in_err-parts
+returns-in_err-parts c =
+    let p = err_from_is_err_and c.from_residual.result c.from_residual.ensures.1 in
     let place : Place (front c.args.draft.now) letter-S = search (rules, length-map) in
-    let k : kinds (front c.args.draft.now) ≡ map (λ (l : Label). l.arrowed) c.as-slice.result.now = kinds_heads (vec_items c.args.draft.now.labels) ∙ ap (map (λ (l : Label). l.arrowed)) (sym c.as-slice.ensures.value) in
-    rw (p.1, p.2) (unfit_subdivision _ _ _ _ _ place k c.in-err-parts.ensures)
+    let k : kinds (front c.args.draft.now) ≡ map (λ (l : Label). l.arrowed) c.as_slice.result.now = kinds_heads (vec_items c.args.draft.now.labels) ∙ ap (map (λ (l : Label). l.arrowed)) (sym c.as_slice.ensures.value) in
+    rw (p.1, p.2) (unfit_subdivision _ _ _ _ _ place k c.in_err-parts.ensures)
 
 pub returns : goal.returns
 returns c =
     let place : Place (front c.args.draft.now) letter-S = search (rules, length-map) in
-    let k : kinds (front c.args.draft.now) ≡ map (λ (l : Label). l.arrowed) c.as-slice.result.now = kinds_heads (vec_items c.args.draft.now.labels) ∙ ap (map (λ (l : Label). l.arrowed)) (sym c.as-slice.ensures.value) in
-    let e = ap (map (λ v. map part_of (vec_items v))) c.in-ok-push.ensures.items ∙ map_push (λ v. map part_of (vec_items v)) (vec_items c.args.draft.now.subdivisions) c.in-ok-parts.parts in
-    (place, (map part_of (vec_items c.in-ok-parts.parts), subst (λ ks. SubdivisionFits ks (map part_of (vec_items c.in-ok-parts.parts))) (sym k) c.in-ok-parts.ensures.0, c.in-ok-parts.ensures.1, ap (set_subdivisions (front c.args.draft.now)) e))
+    let k : kinds (front c.args.draft.now) ≡ map (λ (l : Label). l.arrowed) c.as_slice.result.now = kinds_heads (vec_items c.args.draft.now.labels) ∙ ap (map (λ (l : Label). l.arrowed)) (sym c.as_slice.ensures.value) in
+    let e = ap (map (λ v. map part_of (vec_items v))) c.in_ok-push.ensures.items ∙ map_push (λ v. map part_of (vec_items v)) (vec_items c.args.draft.now.subdivisions) c.in_ok-parts.parts in
+    (place, (map part_of (vec_items c.in_ok-parts.parts), subst (λ ks. SubdivisionFits ks (map part_of (vec_items c.in_ok-parts.parts))) (sym k) c.in_ok-parts.ensures.0, c.in_ok-parts.ensures.1, ap (set_subdivisions (front c.args.draft.now)) e))

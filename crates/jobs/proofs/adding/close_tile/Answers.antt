@@ -19,6 +19,6 @@ returns c =
     let k : vec_items c.replace-children.new.dest ≡ [] = search rules in
     let z : length (vec_items c.replace-outline.result) ≡ 0 → ⊥ = search rules in
     let n = length-map (vec_items c.replace-outline.result) step_of in
-    let t = ap (map tile_of) c.in-ok-push.ensures.items ∙ map_push tile_of (vec_items c.args.draft.now.tiles) (record { outline = c.replace-outline.result; children = c.replace-children.result }) in
+    let t = ap (map tile_of) c.in_ok-push.ensures.items ∙ map_push tile_of (vec_items c.args.draft.now.tiles) (record { outline = c.replace-outline.result; children = c.replace-children.result }) in
     closed_some (front c.args.draft.now) _ (map step_of (vec_items c.replace-outline.result)) _ (map placed_of (vec_items c.replace-children.result)) _ (λ e. z (omega arith)) t
     (ap (λ v. map step_of (vec_items v)) c.replace-outline.ensures.value) (ap (λ v. map placed_of (vec_items v)) c.replace-children.ensures.value) (ap (map step_of) o) (ap (map placed_of) k)

@@ -18,15 +18,15 @@ pub returns-then-rest-lt2 : goal.returns-then-rest-lt2
 returns-then-rest-lt2 c ss h e =
     upto_stuck part_numbers (PartFits (map (λ (x : Label). x.arrowed) c.args.labels.now)) _ _ _ c.loop-rest.invariant c.loop-rest-test.true (λ y r p q. let n = ap length q in omega (arith, c.if-rest-lt2.true)) ss h.2 e
 
-pub returns-in-default : goal.returns-in-default
-returns-in-default c ss h e =
-    upto_stuck part_numbers (PartFits (map (λ (x : Label). x.arrowed) c.args.labels.now)) _ _ _ c.loop-rest.invariant c.loop-rest-test.true c.in-default.ensures ss h.2 e
+pub returns-in_default : goal.returns-in_default
+returns-in_default c ss h e =
+    upto_stuck part_numbers (PartFits (map (λ (x : Label). x.arrowed) c.args.labels.now)) _ _ _ c.loop-rest.invariant c.loop-rest-test.true c.in_default.ensures ss h.2 e
 
 pub loop-rest-preserved : goal.loop-rest-preserved
 loop-rest-preserved c =
     let r = c.loop-rest.rest.now in
     let e : r ≡ part_numbers (part_of c.in-Some.part) ++ take (length r - 2) (drop 2 r) = c.in-Some.ensures.1 ∙ ap (λ t. part_numbers (part_of c.in-Some.part) ++ t) (sym (take_rest r 2)) in
-    let p = ap (map part_of) c.in-ok-push.ensures.items ∙ map_push part_of (vec_items c.loop-rest.found) c.in-Some.part in
+    let p = ap (map part_of) c.in_ok-push.ensures.items ∙ map_push part_of (vec_items c.loop-rest.found) c.in-Some.part in
     subst (λ xs. Upto part_numbers (PartFits (map (λ (x : Label). x.arrowed) c.args.labels.now)) c.args.ns.now xs (take (length r - 2) (drop 2 r))) (sym p)
     (upto_more part_numbers (PartFits (map (λ (x : Label). x.arrowed) c.args.labels.now)) _ _ _ (part_of c.in-Some.part) _ c.loop-rest.invariant c.loop-rest-test.true c.in-Some.ensures.0 e (λ y s f. part_unique _ _ y _ s e f))
 

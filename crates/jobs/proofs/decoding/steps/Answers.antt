@@ -18,15 +18,15 @@ pub returns-then-rest-lt3 : goal.returns-then-rest-lt3
 returns-then-rest-lt3 c ss h e =
     upto_stuck step_numbers (StepFits (map (λ (x : Label). x.arrowed) c.args.labels.now) c.args.order) _ _ _ c.loop-rest.invariant c.loop-rest-test.true (λ y r p q. let n = ap length q in omega (arith, c.if-rest-lt3.true)) ss h.2 e
 
-pub returns-in-default : goal.returns-in-default
-returns-in-default c ss h e =
-    upto_stuck step_numbers (StepFits (map (λ (x : Label). x.arrowed) c.args.labels.now) c.args.order) _ _ _ c.loop-rest.invariant c.loop-rest-test.true c.in-default.ensures ss h.2 e
+pub returns-in_default : goal.returns-in_default
+returns-in_default c ss h e =
+    upto_stuck step_numbers (StepFits (map (λ (x : Label). x.arrowed) c.args.labels.now) c.args.order) _ _ _ c.loop-rest.invariant c.loop-rest-test.true c.in_default.ensures ss h.2 e
 
 pub loop-rest-preserved : goal.loop-rest-preserved
 loop-rest-preserved c =
     let r = c.loop-rest.rest.now in
     let e : r ≡ step_numbers (step_of c.in-Some.step) ++ take (length r - 3) (drop 3 r) = c.in-Some.ensures.1 ∙ ap (λ t. step_numbers (step_of c.in-Some.step) ++ t) (sym (take_rest r 3)) in
-    let p = ap (map step_of) c.in-ok-push.ensures.items ∙ map_push step_of (vec_items c.loop-rest.found) c.in-Some.step in
+    let p = ap (map step_of) c.in_ok-push.ensures.items ∙ map_push step_of (vec_items c.loop-rest.found) c.in-Some.step in
     subst (λ xs. Upto step_numbers (StepFits (map (λ (x : Label). x.arrowed) c.args.labels.now) c.args.order) c.args.ns.now xs (take (length r - 3) (drop 3 r))) (sym p)
     (upto_more step_numbers (StepFits (map (λ (x : Label). x.arrowed) c.args.labels.now) c.args.order) _ _ _ (step_of c.in-Some.step) _ c.loop-rest.invariant c.loop-rest-test.true c.in-Some.ensures.0 e (λ y s f. step_unique _ _ y _ s e f))
 

@@ -7,40 +7,40 @@ use Rattle.jobs.specs.Spelled.{child_line, tile_lines}
 use Rattle.jobs.proofs.Lates.{tile_length, tile_late, tile_fine, at_line}
 use Rattle.jobs.proofs.late.beyond_tile.Goals as goal
 
-pub overflow-add-line : goal.overflow-add-line
-overflow-add-line c =
+pub overflow_add-line : goal.overflow_add-line
+overflow_add-line c =
     let n = tile_length _ _ c.tile-item.result c.loop-tile-test.true c.tile-item.is in
     let i = c.loop-tile.invariant.1 in
     let p = c.requires in
     search rules
 
-pub overflow-add-line-in-loop-tile-2 : goal.overflow-add-line-in-loop-tile-2
-overflow-add-line-in-loop-tile-2 c =
+pub overflow_add-line-in-loop-tile-2 : goal.overflow_add-line-in-loop-tile-2
+overflow_add-line-in-loop-tile-2 c =
     let n = tile_length _ _ c.tile-item.result c.loop-tile-test.true c.tile-item.is in
-    let e = ap length c.as-slice-children.ensures.value in
+    let e = ap length c.as_slice-children.ensures.value in
     let i = c.loop-tile.invariant.1 in
     let p = c.requires in
     search rules
 
-pub beyond-child-requires : goal.beyond-child-requires
-beyond-child-requires c =
+pub beyond_child-requires : goal.beyond_child-requires
+beyond_child-requires c =
     let n = tile_length _ _ c.tile-item.result c.loop-tile-test.true c.tile-item.is in
-    let e = ap length c.as-slice-children.ensures.value in
+    let e = ap length c.as_slice-children.ensures.value in
     omega (arith, c.loop-tile.invariant.1, c.requires)
 
 pub returns-in-Some : goal.returns-in-Some
 returns-in-Some c =
     sym (c.loop-tile.invariant.0 ∙ tile_late _ _ _ c.in-Some.late _ c.tile-item.result c.loop-tile-test.true c.tile-item.is
-    (c.in-Some.ensures ∙ ap (λ t. first_beyond (length c.args.tiles.now) (c.loop-tile.line + 1) (map child_line (map placed_of t))) c.as-slice-children.ensures.value))
+    (c.in-Some.ensures ∙ ap (λ t. first_beyond (length c.args.tiles.now) (c.loop-tile.line + 1) (map child_line (map placed_of t))) c.as_slice-children.ensures.value))
 
 pub loop-tile-preserved : goal.loop-tile-preserved
 loop-tile-preserved c =
     let x = c.tile-item.result in
     let n = tile_length _ _ x c.loop-tile-test.true c.tile-item.is in
-    let e = ap length c.as-slice-children.ensures.value in
-    let k : c.loop-tile.line + (1 + length (vec_items x.children)) ≡ c.loop-tile.line + (1 + length c.as-slice-children.result.now) = omega arith in (
+    let e = ap length c.as_slice-children.ensures.value in
+    let k : c.loop-tile.line + (1 + length (vec_items x.children)) ≡ c.loop-tile.line + (1 + length c.as_slice-children.result.now) = omega arith in (
       c.loop-tile.invariant.0
-          ∙ tile_fine _ _ _ _ x c.loop-tile-test.true c.tile-item.is (c.in-default.ensures ∙ ap (λ t. first_beyond (length c.args.tiles.now) (c.loop-tile.line + 1) (map child_line (map placed_of t))) c.as-slice-children.ensures.value)
+          ∙ tile_fine _ _ _ _ x c.loop-tile-test.true c.tile-item.is (c.in_default.ensures ∙ ap (λ t. first_beyond (length c.args.tiles.now) (c.loop-tile.line + 1) (map child_line (map placed_of t))) c.as_slice-children.ensures.value)
           ∙ at_line _ _ _ (flat_map tile_lines (map tile_of (drop (c.loop-tile.tile-index + 1) c.args.tiles.now))) k,
       omega (arith, c.loop-tile.invariant.1),
     )

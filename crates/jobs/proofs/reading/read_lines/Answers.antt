@@ -14,16 +14,16 @@ loop-rest-init c =
     (λ i. whole_front 0 0 (sym c.new.ensures.items i) (map head_of (sym c.new-2.ensures.items i)) (map (λ v. map part_of (vec_items v)) (sym c.new-3.ensures.items i)) (map tile_of (sym c.new-4.ensures.items i)) (map step_of (sym c.new-5.ensures.items i)) (map placed_of (sym c.new-6.ensures.items i)) None (map placed_of (sym c.new-7.ensures.items i)))
     (sofar_start c.args.text.now)
 
-pub returns-in-err-rest : goal.returns-in-err-rest
-returns-in-err-rest c =
-    let p = err_from_is_err_and c.from-residual.result c.from-residual.ensures.1 in
-    rw (p.1, p.2) (sofar_refused _ _ _ _ _ c.requires c.loop-rest.invariant c.in-err-rest.ensures)
+pub returns-in_err-rest : goal.returns-in_err-rest
+returns-in_err-rest c =
+    let p = err_from_is_err_and c.from_residual.result c.from_residual.ensures.1 in
+    rw (p.1, p.2) (sofar_refused _ _ _ _ _ c.requires c.loop-rest.invariant c.in_err-rest.ensures)
 
 pub loop-rest-smaller : goal.loop-rest-smaller
-loop-rest-smaller c = let w = c.in-ok-rest.ensures in first_shorter _ w.0 w.1 _ w.2
+loop-rest-smaller c = let w = c.in_ok-rest.ensures in first_shorter _ w.0 w.1 _ w.2
 
 pub loop-rest-preserved : goal.loop-rest-preserved
-loop-rest-preserved c = sofar_more _ _ _ _ _ _ c.loop-rest.invariant c.in-ok-rest.ensures
+loop-rest-preserved c = sofar_more _ _ _ _ _ _ c.loop-rest.invariant c.in_ok-rest.ensures
 
 pub returns-then-len-eq0 : goal.returns-then-len-eq0
 returns-then-len-eq0 c =

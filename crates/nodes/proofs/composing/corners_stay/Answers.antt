@@ -17,5 +17,5 @@ unfolding kept_corners
 returns g c =
     let E = g.R.Ring.exact in let v = g.R.Ring.value in let b = c.args.book.now in let B = book_view E v b in
     let p = placement_view E v c.args.p.now in
-    c.corners-along.ensures ∙ ap (λ l. kept_corners_from E B p (map step_of l) E.zero) c.as-slice.ensures.value
+    c.corners_along.ensures ∙ ap (λ l. kept_corners_from E B p (map step_of l) E.zero) c.as_slice.ensures.value
     ∙ sym (ap (λ t. kept_corners_from E B p t.outline E.zero) (tile_is E v b p.tile _ c.index.result.now c.len.ensures c.if-p-len.false c.index.ensures))

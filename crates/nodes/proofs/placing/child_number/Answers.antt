@@ -2,20 +2,20 @@ use Rattle.edges.specs.Views.{placement_view}
 use Rattle.nodes.proofs.Downward.{no_child, child_there, child_outside, ring_entry}
 use Rattle.nodes.proofs.placing.child_number.Goals as goal
 
-pub returns-in-err-child-under : goal.returns-in-err-child-under
-returns-in-err-child-under g c =
+pub returns-in_err-child_under : goal.returns-in_err-child_under
+returns-in_err-child_under g c =
     let E = g.R.Ring.exact in let v = g.R.Ring.value in
     let p = placement_view E v c.args.above.now in
     let h = c.in-Some.ensures in
-    ring_entry E v c.from-residual.result _ _ c.from-residual.ensures.1
-    (child_outside E g.met.R.Ring.lawful v c.args.job.now p c.args.k c.in-Some.child h.0 h.1 c.in-err-child-under.ensures.is.1)
+    ring_entry E v c.from_residual.result _ _ c.from_residual.ensures.1
+    (child_outside E g.met.R.Ring.lawful v c.args.job.now p c.args.k c.in-Some.child h.0 h.1 c.in_err-child_under.ensures.is.1)
 
-pub returns-in-ok-child-under : goal.returns-in-ok-child-under
-returns-in-ok-child-under g c =
+pub returns-in_ok-child_under : goal.returns-in_ok-child_under
+returns-in_ok-child_under g c =
     let E = g.R.Ring.exact in let v = g.R.Ring.value in
     let p = placement_view E v c.args.above.now in
     let h = c.in-Some.ensures in
-    let k = c.in-ok-child-under.ensures.is in
+    let k = c.in_ok-child_under.ensures.is in
     child_there E g.met.R.Ring.lawful v c.args.job.now p c.args.k c.in-Some.child h.0 h.1 _ k.0 k.1
 
 pub returns-in-None : goal.returns-in-None

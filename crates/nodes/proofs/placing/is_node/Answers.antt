@@ -17,7 +17,7 @@ returns-in-Some g c =
     let a = c.args.at.now in
     let long : a.level ≤ length a.path = omega arith in
     let h = c.in-Some.ensures in
-    c.path-leads-down.ensures ∙ sym (by_path (job_numbers E v j) a.seed a.level a.path long _ (subst (λ n. a.level ≤ n) (sym (depth_is (coefficients E v) j)) c.if-at-job.false) h.0 h.1)
+    c.path_leads_down.ensures ∙ sym (by_path (job_numbers E v j) a.seed a.level a.path long _ (subst (λ n. a.level ≤ n) (sym (depth_is (coefficients E v) j)) c.if-at-job.false) h.0 h.1)
 
 pub returns-in-None : goal.returns-in-None
 returns-in-None g c =

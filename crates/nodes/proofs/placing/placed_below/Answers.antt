@@ -8,13 +8,13 @@ use Rattle.nodes.proofs.Downward.{fault_entry_of, kept_on, placed_on, leads_on_f
 use Rattle.nodes.proofs.Paths.{path_more, path_end, node_seed}
 use Rattle.nodes.proofs.placing.placed_below.Goals as goal
 
-pub returns-in-default : goal.returns-in-default
-returns-in-default g c =
+pub returns-in_default : goal.returns-in_default
+returns-in_default g c =
     let E = g.R.Ring.exact in let v = g.R.Ring.value in let N = job_numbers E v c.args.job.now in
     let a = c.args.at.now in
     let long : a.level ≤ length a.path = omega arith in
     let h = (node_seed N a.seed a.level a.path long c.requires).0 in
-    let k = c.in-default.ensures in
+    let k = c.in_default.ensures in
     absurd (omega arith)
 
 pub loop-i-init : goal.loop-i-init
@@ -41,14 +41,14 @@ loop-i-preserved g c =
     let long : a.level ≤ length a.path = omega arith in
     let lt : i < a.level = omega arith in
     let down = sym (path_more a.path a.level i (leads_down N p.tile) lt long) ∙ c.loop-i.invariant.2 in
-    let e = c.in-ok-placed.ensures in (
-      c.loop-i.invariant.0 ∙ path_more a.path a.level i (kept_below E N p) lt long ∙ kept_on E N p k rest down (placement_view E v c.in-ok-placed.placed) e,
-      c.loop-i.invariant.1 ∙ path_more a.path a.level i (placement_below E N p) lt long ∙ placed_on E N p k rest down (placement_view E v c.in-ok-placed.placed) e,
-      leads_on_from E N p k rest down (placement_view E v c.in-ok-placed.placed) e,
+    let e = c.in_ok-placed.ensures in (
+      c.loop-i.invariant.0 ∙ path_more a.path a.level i (kept_below E N p) lt long ∙ kept_on E N p k rest down (placement_view E v c.in_ok-placed.placed) e,
+      c.loop-i.invariant.1 ∙ path_more a.path a.level i (placement_below E N p) lt long ∙ placed_on E N p k rest down (placement_view E v c.in_ok-placed.placed) e,
+      leads_on_from E N p k rest down (placement_view E v c.in_ok-placed.placed) e,
     )
 
-pub returns-in-err-placed : goal.returns-in-err-placed
-returns-in-err-placed g c =
+pub returns-in_err-placed : goal.returns-in_err-placed
+returns-in_err-placed g c =
     let E = g.R.Ring.exact in let v = g.R.Ring.value in
     let N = job_numbers E v c.args.job.now in
     let a = c.args.at.now in let i = c.loop-i.i in
@@ -57,11 +57,11 @@ returns-in-err-placed g c =
     let k = get_or a.path i 0 in
     let long : a.level ≤ length a.path = omega arith in
     let lt : i < a.level = omega arith in
-    let f = c.in-err-placed.field-0.0 in
+    let f = c.in_err-placed.field-0.0 in
     let down = sym (path_more a.path a.level i (leads_down N p.tile) lt long) ∙ c.loop-i.invariant.2 in
-    let off = off_below E N p k rest down f c.in-err-placed.ensures in
+    let off = off_below E N p k rest down f c.in_err-placed.ensures in
     let way = c.loop-i.invariant.0 ∙ path_more a.path a.level i (kept_below E N p) lt long ∙ off.0 in
-    fault_entry_of E v c.from-residual.result f _ c.from-residual.ensures.1 (off.1 ∙ sym (ap (λ b. cond b (there (node_placement E N (address_view a))) outside) way))
+    fault_entry_of E v c.from_residual.result f _ c.from_residual.ensures.1 (off.1 ∙ sym (ap (λ b. cond b (there (node_placement E N (address_view a))) outside) way))
 
 pub returns : goal.returns
 unfolding kept_below placement_below

@@ -11,7 +11,7 @@ loop-p-init g c = (rw c.new-out.ensures.items, λ k. k)
 pub loop-p-preserved : goal.loop-p-preserved
 loop-p-preserved g c =
     let E = g.R.Ring.exact in let v = g.R.Ring.value in let B = book_view E v c.args.book.now in
-    let h = c.in-ok-put-outline.ensures.is in (
+    let h = c.in_ok-put_outline.ensures.is in (
       join_more (outline_one E v B) (outline_rest E v B) (outline_cons E v B) (outline_none E v B) c.args.placements.now c.loop-p.p-index
           _ _ _ c.p-item.result c.loop-p-test.true c.p-item.is h.0 c.loop-p.invariant.0,
       all_step (placement_view E v) (KeptPlacedOutline E B) _ c.args.placements.now c.loop-p.p-index c.p-item.result c.loop-p-test.true c.p-item.is h.1 c.loop-p.invariant.1,
@@ -27,9 +27,9 @@ returns g c =
       );
     }
 
-pub returns-in-err-put-outline : goal.returns-in-err-put-outline
-returns-in-err-put-outline g c =
+pub returns-in_err-put_outline : goal.returns-in_err-put_outline
+returns-in_err-put_outline g c =
     let E = g.R.Ring.exact in let v = g.R.Ring.value in let B = book_view E v c.args.book.now in
-    handed_on c.from-residual.result _ _ _ _
+    handed_on c.from_residual.result _ _ _ _
     (all_row (placement_view E v) (KeptPlacedOutline E B) c.args.placements.now c.loop-p.p-index c.p-item.result c.loop-p-test.true c.p-item.is)
-    c.in-err-put-outline.ensures.is c.from-residual.ensures.1
+    c.in_err-put_outline.ensures.is c.from_residual.ensures.1

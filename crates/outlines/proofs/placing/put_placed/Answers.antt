@@ -11,9 +11,9 @@ loop-x-init g c = (refl, λ k. k)
 pub loop-x-preserved : goal.loop-x-preserved
 loop-x-preserved g c =
     let E = g.R.Ring.exact in let v = g.R.Ring.value in let p = placement_view E v c.args.p.now in
-    let h = c.in-ok-y.ensures.is in (
-      push_more (counted_view E v) (placed_one E v p) c.args.chain.now c.loop-x.x-index (vec_items c.loop-x.out) (vec_items c.push.new.self) c.in-ok-y.y c.x-item.result _
-          c.in-ok-push.ensures.items c.loop-x-test.true c.x-item.is h.0 c.loop-x.invariant.0,
+    let h = c.in_ok-y.ensures.is in (
+      push_more (counted_view E v) (placed_one E v p) c.args.chain.now c.loop-x.x-index (vec_items c.loop-x.out) (vec_items c.push.new.self) c.in_ok-y.y c.x-item.result _
+          c.in_ok-push.ensures.items c.loop-x-test.true c.x-item.is h.0 c.loop-x.invariant.0,
       all_step (counted_view E v) (λ x. KeptImage E p x.what.start) _ c.args.chain.now c.loop-x.x-index c.x-item.result c.loop-x-test.true c.x-item.is h.1 c.loop-x.invariant.1,
     )
 
@@ -28,11 +28,11 @@ returns g c =
       );
     }
 
-pub returns-in-err-y : goal.returns-in-err-y
-returns-in-err-y g c =
+pub returns-in_err-y : goal.returns-in_err-y
+returns-in_err-y g c =
     let E = g.R.Ring.exact in let v = g.R.Ring.value in let p = placement_view E v c.args.p.now in
-    off_plane c.from-residual.result _ _ _ _ c.from-residual.ensures.1
-    (all_row (counted_view E v) (λ x. KeptImage E p x.what.start) c.args.chain.now c.loop-x.x-index c.x-item.result c.loop-x-test.true c.x-item.is) c.in-err-y.ensures.is
+    off_plane c.from_residual.result _ _ _ _ c.from_residual.ensures.1
+    (all_row (counted_view E v) (λ x. KeptImage E p x.what.start) c.args.chain.now c.loop-x.x-index c.x-item.result c.loop-x-test.true c.x-item.is) c.in_err-y.ensures.is
 
-pub returns-in-err-push : goal.returns-in-err-push
-returns-in-err-push g c = no_memory c.from-residual-in-err-push.result _ _ c.from-residual-in-err-push.ensures.1
+pub returns-in_err-push : goal.returns-in_err-push
+returns-in_err-push g c = no_memory c.from_residual-in_err-push.result _ _ c.from_residual-in_err-push.ensures.1

@@ -13,11 +13,11 @@ unfolding outline KeptOutline
 returns-then-t-len g c =
     let E = g.R.Ring.exact in let v = g.R.Ring.value in
     let B = book_view E v c.args.book.now in
-    let s = ap (map step_of) c.as-slice.ensures.value
+    let s = ap (map step_of) c.as_slice.ensures.value
     ∙ sym (ap (λ t. t.outline) (tile_is E v c.args.book.now c.args.t _ c.index.result.now c.len.ensures c.if-t-len.true c.index.ensures)) in
-    made_weaker c.walk-from.result _ _ _ _ (λ _ e. e ∙ ap₂ (walk E B) s c.zero.ensures)
+    made_weaker c.walk_from.result _ _ _ _ (λ _ e. e ∙ ap₂ (walk E B) s c.zero.ensures)
     (λ k. subst (λ l. KeptWalk E B l E.zero) s (subst (KeptWalk E B _) c.zero.ensures k))
-    (λ k. subst (KeptWalk E B _) (sym c.zero.ensures) (subst (λ l. KeptWalk E B l E.zero) (sym s) k)) c.walk-from.ensures
+    (λ k. subst (KeptWalk E B _) (sym c.zero.ensures) (subst (λ l. KeptWalk E B l E.zero) (sym s) k)) c.walk_from.ensures
 
 pub returns-else-t-len : goal.returns-else-t-len
 unfolding outline walk KeptOutline KeptWalk

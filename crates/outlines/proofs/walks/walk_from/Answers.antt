@@ -23,10 +23,10 @@ loop-s-preserved g c =
     let steps = c.args.steps.now in
     let i = c.loop-s.s-index in
     let q = v c.loop-s.q in
-    let h = c.in-ok-step.ensures.is in
+    let h = c.in_ok-step.ensures.is in
     let rest = map step_of (drop (i + 1) steps) in (
       ap (λ z. chain_view E v (vec_items c.push.new.self) ++ walk E B rest z) h.0.1
-          ∙ pushed (counted_view E v) (vec_items c.loop-s.out) (vec_items c.push.new.self) _ _ _ _ c.in-ok-push.ensures.items h.0.0
+          ∙ pushed (counted_view E v) (vec_items c.loop-s.out) (vec_items c.push.new.self) _ _ _ _ c.in_ok-push.ensures.items h.0.0
           (ap (λ l. chain_view E v (vec_items c.loop-s.out) ++ l) (sym (walk_more E B steps i none q c.loop-s-test.true)) ∙ c.loop-s.invariant.0),
       λ k. subst (KeptWalk E B rest) (sym h.0.1) (kept_more E B steps i none q c.loop-s-test.true (c.loop-s.invariant.1 k)).1,
       λ k. c.loop-s.invariant.2 (kept_back E B steps i none q c.loop-s-test.true h.1 (subst (KeptWalk E B rest) h.0.1 k)),
@@ -43,13 +43,13 @@ returns g c =
       );
     }
 
-pub returns-in-err-step : goal.returns-in-err-step
+pub returns-in_err-step : goal.returns-in_err-step
 unfolding none
-returns-in-err-step g c =
+returns-in_err-step g c =
     let E = g.R.Ring.exact in
     let B = book_view E g.R.Ring.value c.args.book.now in
-    off_plane c.from-residual.result _ _ _ _ c.from-residual.ensures.1
-    (λ k. (kept_more E B c.args.steps.now c.loop-s.s-index none (g.R.Ring.value c.loop-s.q) c.loop-s-test.true (c.loop-s.invariant.1 k)).0) c.in-err-step.ensures.is
+    off_plane c.from_residual.result _ _ _ _ c.from_residual.ensures.1
+    (λ k. (kept_more E B c.args.steps.now c.loop-s.s-index none (g.R.Ring.value c.loop-s.q) c.loop-s-test.true (c.loop-s.invariant.1 k)).0) c.in_err-step.ensures.is
 
-pub returns-in-err-push : goal.returns-in-err-push
-returns-in-err-push g c = no_memory c.from-residual-in-err-push.result _ _ c.from-residual-in-err-push.ensures.1
+pub returns-in_err-push : goal.returns-in_err-push
+returns-in_err-push g c = no_memory c.from_residual-in_err-push.result _ _ c.from_residual-in_err-push.ensures.1

@@ -12,9 +12,9 @@ loop-row-init g c = (rw c.new-out.ensures.items, λ k. k)
 pub loop-row-preserved : goal.loop-row-preserved
 loop-row-preserved g c =
     let E = g.R.Ring.exact in let v = g.R.Ring.value in
-    let h = c.in-ok-placed.ensures.is in (
-      push_more (placed_with (coefficients E v)) (fitted_row E.d) c.args.rows.now c.loop-row.row-index (vec_items c.loop-row.out) (vec_items c.push.new.self) c.in-ok-placed.placed c.row-item.result _
-          c.in-ok-push.ensures.items c.loop-row-test.true c.row-item.is h.0 c.loop-row.invariant.0,
+    let h = c.in_ok-placed.ensures.is in (
+      push_more (placed_with (coefficients E v)) (fitted_row E.d) c.args.rows.now c.loop-row.row-index (vec_items c.loop-row.out) (vec_items c.push.new.self) c.in_ok-placed.placed c.row-item.result _
+          c.in_ok-push.ensures.items c.loop-row-test.true c.row-item.is h.0 c.loop-row.invariant.0,
       all_step placed_of (PlacedOnPlane E) _ c.args.rows.now c.loop-row.row-index c.row-item.result c.loop-row-test.true c.row-item.is h.1 c.loop-row.invariant.1,
     )
 
@@ -28,11 +28,11 @@ returns g c =
       );
     }
 
-pub returns-in-err-placed : goal.returns-in-err-placed
-returns-in-err-placed g c =
+pub returns-in_err-placed : goal.returns-in_err-placed
+returns-in_err-placed g c =
     let E = g.R.Ring.exact in
-    off_plane c.from-residual.result _ _ _ _ c.from-residual.ensures.1
-    (all_row placed_of (PlacedOnPlane E) c.args.rows.now c.loop-row.row-index c.row-item.result c.loop-row-test.true c.row-item.is) c.in-err-placed.ensures.is
+    off_plane c.from_residual.result _ _ _ _ c.from_residual.ensures.1
+    (all_row placed_of (PlacedOnPlane E) c.args.rows.now c.loop-row.row-index c.row-item.result c.loop-row-test.true c.row-item.is) c.in_err-placed.ensures.is
 
-pub returns-in-err-push : goal.returns-in-err-push
-returns-in-err-push g c = no_memory c.from-residual-in-err-push.result _ _ c.from-residual-in-err-push.ensures.1
+pub returns-in_err-push : goal.returns-in_err-push
+returns-in_err-push g c = no_memory c.from_residual-in_err-push.result _ _ c.from_residual-in_err-push.ensures.1

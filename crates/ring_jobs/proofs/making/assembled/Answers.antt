@@ -6,8 +6,8 @@ use Rattle.ring_jobs.specs.RingJobs.{coefficients}
 use Rattle.ring_jobs.proofs.Shaping.{mapped, branching_on, numbers_relisted, ranged_branching}
 use Rattle.ring_jobs.proofs.making.assembled.Goals as goal
 
-pub invariant-of-result : goal.invariant-of-result
-invariant-of-result g c =
+pub invariant_of-result : goal.invariant_of-result
+invariant_of-result g c =
     let E = g.R.Ring.exact in let v = g.R.Ring.value in
     let j = c.args.job.now in
     let shape : Branching (numbers j) → Branching (numbers_with (λ _. []) j.order j.rank c.args.book j.depth (vec_items c.args.seeds)) =

@@ -18,11 +18,11 @@ loop-i-init g c = (rw c.new-out.ensures.items, λ k. k)
 pub loop-i-preserved : goal.loop-i-preserved
 loop-i-preserved g c =
     let E = g.R.Ring.exact in let v = g.R.Ring.value in
-    let h = c.in-ok-label.ensures.is in
-    let s = ap (λ ps. relisted_label (fitted E.d) (divided (head_of c.index-labels-i.result) (map part_of ps))) c.as-slice.ensures.value in
+    let h = c.in_ok-label.ensures.is in
+    let s = ap (λ ps. relisted_label (fitted E.d) (divided (head_of c.index-labels-i.result) (map part_of ps))) c.as_slice.ensures.value in
     let m = labels_more vec_items E.d c.args.labels.now c.args.subdivisions.now c.loop-i.i c.index-labels-i.result c.index-subdivisions-i.result c.loop-i-test.true (omega arith) c.index-labels-i.is c.index-subdivisions-i.is in (
-      pushed (label_with (coefficients E v)) (vec_items c.loop-i.out) (vec_items c.push.new.self) c.in-ok-label.label _ _ _
-          c.in-ok-push.ensures.items (h.0 ∙ s) (ap (λ l. map (label_with (coefficients E v)) (vec_items c.loop-i.out) ++ l) (sym m) ∙ c.loop-i.invariant.0),
+      pushed (label_with (coefficients E v)) (vec_items c.loop-i.out) (vec_items c.push.new.self) c.in_ok-label.label _ _ _
+          c.in_ok-push.ensures.items (h.0 ∙ s) (ap (λ l. map (label_with (coefficients E v)) (vec_items c.loop-i.out) ++ l) (sym m) ∙ c.loop-i.invariant.0),
       all_step head_of (λ x. ListedOnPlane E x.length) _ c.args.labels.now c.loop-i.i c.index-labels-i.result c.loop-i-test.true c.index-labels-i.is h.1 c.loop-i.invariant.1,
     )
 
@@ -36,16 +36,16 @@ returns g c =
       );
     }
 
-pub label-over-requires : goal.label-over-requires
-label-over-requires g c =
+pub label_over-requires : goal.label_over-requires
+label_over-requires g c =
     let few = ∥∥₁_elim c.requires.1 le_prop (λ a. All-get_or (λ v. length (vec_items v) ≤ most_parts) c.args.subdivisions.now c.loop-i.i c.index-subdivisions-i.result (omega arith) a) in
-    subst (λ l. length l ≤ most_parts) (sym (c.as-slice.ensures.value ∙ ap vec_items c.index-subdivisions-i.is)) few
+    subst (λ l. length l ≤ most_parts) (sym (c.as_slice.ensures.value ∙ ap vec_items c.index-subdivisions-i.is)) few
 
-pub returns-in-err-label : goal.returns-in-err-label
-returns-in-err-label g c =
+pub returns-in_err-label : goal.returns-in_err-label
+returns-in_err-label g c =
     let E = g.R.Ring.exact in
-    handed_on c.from-residual.result _ _ _ _
-    (all_row head_of (λ x. ListedOnPlane E x.length) c.args.labels.now c.loop-i.i c.index-labels-i.result c.loop-i-test.true c.index-labels-i.is) c.in-err-label.ensures.is c.from-residual.ensures.1
+    handed_on c.from_residual.result _ _ _ _
+    (all_row head_of (λ x. ListedOnPlane E x.length) c.args.labels.now c.loop-i.i c.index-labels-i.result c.loop-i-test.true c.index-labels-i.is) c.in_err-label.ensures.is c.from_residual.ensures.1
 
-pub returns-in-err-push : goal.returns-in-err-push
-returns-in-err-push g c = no_memory c.from-residual-in-err-push.result _ _ c.from-residual-in-err-push.ensures.1
+pub returns-in_err-push : goal.returns-in_err-push
+returns-in_err-push g c = no_memory c.from_residual-in_err-push.result _ _ c.from_residual-in_err-push.ensures.1

@@ -16,59 +16,59 @@ use Rattle.ring_jobs.proofs.Reading.{read_back}
 use Rattle.ring_jobs.proofs.Shaping.{mapped, job_same, element_on_plane, placed_on_plane, tiles_on_plane, heads_on_plane, tiles_small, parts_short, only_memory}
 use Rattle.ring_jobs.proofs.making.over.Goals as goal
 
-pub labels-over-requires : goal.labels-over-requires
-labels-over-requires g c =
+pub labels_over-requires : goal.labels_over-requires
+labels_over-requires g c =
     let j = c.args.job.now in
-    let s = c.as-slice-3.ensures.value in
-    let l = c.as-slice-2.ensures.value in (
+    let s = c.as_slice-3.ensures.value in
+    let l = c.as_slice-2.ensures.value in (
       ap length s ∙ j.paired ∙ sym (ap length l),
       subst (λ vs. ∥ All (λ v. length (vec_items v) ≤ most_parts) vs ∥₁) (sym s)
           (mapped (λ r. parts_short vec_items _ _ (map head_of (vec_items j.labels)) (vec_items j.subdivisions) (j.paired ∙ sym (length-map (vec_items j.labels) head_of)) r.shaped.labels) j.in_range),
     )
 
-pub tiles-over-requires : goal.tiles-over-requires
-tiles-over-requires g c =
+pub tiles_over-requires : goal.tiles_over-requires
+tiles_over-requires g c =
     let j = c.args.job.now in
-    subst (λ ts. ∥ All SmallTile ts ∥₁) (sym c.as-slice-4.ensures.value) (mapped (λ r. tiles_small _ _ _ (vec_items j.tiles) r.shaped.tiles) j.in_range)
+    subst (λ ts. ∥ All SmallTile ts ∥₁) (sym c.as_slice-4.ensures.value) (mapped (λ r. tiles_small _ _ _ (vec_items j.tiles) r.shaped.tiles) j.in_range)
 
 pub assembled-requires : goal.assembled-requires
 unfolding numbers_with relisted
 assembled-requires g c =
     let E = g.R.Ring.exact in
-    let factor = read_back E g.met.R.Ring.lawful _ _ (c.in-ok-factor.ensures.is.0 ∙ ap (read_list E) c.as-slice.ensures.value) in
-    let labels = c.in-ok-labels.ensures.is.0 ∙ ap₂ (λ ls vs. map (relisted_label (fitted E.d)) (labelled (map head_of ls) (map (λ v. map part_of (vec_items v)) vs))) c.as-slice-2.ensures.value c.as-slice-3.ensures.value in
-    let tiles = c.in-ok-tiles.ensures.is.0 ∙ ap (λ ts. map (relisted_tile (fitted E.d)) (map tile_of ts)) c.as-slice-4.ensures.value in
-    let seeds = c.in-ok-seeds.ensures.is.0 ∙ ap (λ ps. map (relisted_placed (fitted E.d)) (map placed_of ps)) c.as-slice-5.ensures.value in
+    let factor = read_back E g.met.R.Ring.lawful _ _ (c.in_ok-factor.ensures.is.0 ∙ ap (read_list E) c.as_slice.ensures.value) in
+    let labels = c.in_ok-labels.ensures.is.0 ∙ ap₂ (λ ls vs. map (relisted_label (fitted E.d)) (labelled (map head_of ls) (map (λ v. map part_of (vec_items v)) vs))) c.as_slice-2.ensures.value c.as_slice-3.ensures.value in
+    let tiles = c.in_ok-tiles.ensures.is.0 ∙ ap (λ ts. map (relisted_tile (fitted E.d)) (map tile_of ts)) c.as_slice-4.ensures.value in
+    let seeds = c.in_ok-seeds.ensures.is.0 ∙ ap (λ ps. map (relisted_placed (fitted E.d)) (map placed_of ps)) c.as_slice-5.ensures.value in
     job_same _ _ _ _ _ _ _ _ _ _ _ factor labels tiles seeds
 
-pub returns-in-err-factor : goal.returns-in-err-factor
-returns-in-err-factor g c =
+pub returns-in_err-factor : goal.returns-in_err-factor
+returns-in_err-factor g c =
     let E = g.R.Ring.exact in
     let j = c.args.job.now in
-    only_memory c.from-residual.result _ (ListedOnPlane E c.as-slice.result.now) (Ring _)
-    (subst (λ l. ∥ ListedOnPlane E l ∥₁) (sym c.as-slice.ensures.value) (mapped (λ r. element_on_plane E g.met.R.Ring.lawful _ r.shaped.factor.1) j.in_range))
-    c.in-err-factor.ensures.is c.from-residual.ensures.1
+    only_memory c.from_residual.result _ (ListedOnPlane E c.as_slice.result.now) (Ring _)
+    (subst (λ l. ∥ ListedOnPlane E l ∥₁) (sym c.as_slice.ensures.value) (mapped (λ r. element_on_plane E g.met.R.Ring.lawful _ r.shaped.factor.1) j.in_range))
+    c.in_err-factor.ensures.is c.from_residual.ensures.1
 
-pub returns-in-err-labels : goal.returns-in-err-labels
-returns-in-err-labels g c =
+pub returns-in_err-labels : goal.returns-in_err-labels
+returns-in_err-labels g c =
     let E = g.R.Ring.exact in
     let j = c.args.job.now in
-    only_memory c.from-residual-in-err-labels.result _ _ _
-    (subst (λ ls. ∥ All (λ (h : Head). ListedOnPlane E h.length) (map head_of ls) ∥₁) (sym c.as-slice-2.ensures.value) (mapped (λ r. heads_on_plane E g.met.R.Ring.lawful _ _ _ _ r.shaped.labels) j.in_range))
-    c.in-err-labels.ensures.is c.from-residual-in-err-labels.ensures.1
+    only_memory c.from_residual-in_err-labels.result _ _ _
+    (subst (λ ls. ∥ All (λ (h : Head). ListedOnPlane E h.length) (map head_of ls) ∥₁) (sym c.as_slice-2.ensures.value) (mapped (λ r. heads_on_plane E g.met.R.Ring.lawful _ _ _ _ r.shaped.labels) j.in_range))
+    c.in_err-labels.ensures.is c.from_residual-in_err-labels.ensures.1
 
-pub returns-in-err-tiles : goal.returns-in-err-tiles
-returns-in-err-tiles g c =
+pub returns-in_err-tiles : goal.returns-in_err-tiles
+returns-in_err-tiles g c =
     let E = g.R.Ring.exact in
     let j = c.args.job.now in
-    only_memory c.from-residual-in-err-tiles.result _ _ _
-    (subst (λ ts. ∥ All (TileOnPlane E) (map tile_of ts) ∥₁) (sym c.as-slice-4.ensures.value) (mapped (λ r. tiles_on_plane E g.met.R.Ring.lawful _ _ _ _ r.shaped.tiles) j.in_range))
-    c.in-err-tiles.ensures.is c.from-residual-in-err-tiles.ensures.1
+    only_memory c.from_residual-in_err-tiles.result _ _ _
+    (subst (λ ts. ∥ All (TileOnPlane E) (map tile_of ts) ∥₁) (sym c.as_slice-4.ensures.value) (mapped (λ r. tiles_on_plane E g.met.R.Ring.lawful _ _ _ _ r.shaped.tiles) j.in_range))
+    c.in_err-tiles.ensures.is c.from_residual-in_err-tiles.ensures.1
 
-pub returns-in-err-seeds : goal.returns-in-err-seeds
-returns-in-err-seeds g c =
+pub returns-in_err-seeds : goal.returns-in_err-seeds
+returns-in_err-seeds g c =
     let E = g.R.Ring.exact in
     let j = c.args.job.now in
-    only_memory c.from-residual-in-err-seeds.result _ _ _
-    (subst (λ ps. ∥ All (PlacedOnPlane E) (map placed_of ps) ∥₁) (sym c.as-slice-5.ensures.value) (mapped (λ r. placed_on_plane E g.met.R.Ring.lawful _ _ _ (All-weaker _ _ (λ p h. h.1) _ r.shaped.seeds)) j.in_range))
-    c.in-err-seeds.ensures.is c.from-residual-in-err-seeds.ensures.1
+    only_memory c.from_residual-in_err-seeds.result _ _ _
+    (subst (λ ps. ∥ All (PlacedOnPlane E) (map placed_of ps) ∥₁) (sym c.as_slice-5.ensures.value) (mapped (λ r. placed_on_plane E g.met.R.Ring.lawful _ _ _ (All-weaker _ _ (λ p h. h.1) _ r.shaped.seeds)) j.in_range))
+    c.in_err-seeds.ensures.is c.from_residual-in_err-seeds.ensures.1

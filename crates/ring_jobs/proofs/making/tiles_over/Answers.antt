@@ -11,8 +11,8 @@ use Rattle.ring_jobs.specs.RingJobs.{TileOnPlane, coefficients}
 use Rattle.ring_jobs.proofs.Rowwise.{fitted_tile, fitted_tiles}
 use Rattle.ring_jobs.proofs.making.tiles_over.Goals as goal
 
-pub tile-over-requires : goal.tile-over-requires
-tile-over-requires g c =
+pub tile_over-requires : goal.tile_over-requires
+tile_over-requires g c =
     let small : All SmallTile c.args.tiles.now → SmallTile c.tile-item.result = λ a. subst SmallTile (sym c.tile-item.is) (All-get_or SmallTile c.args.tiles.now c.loop-tile.tile-index c.tile-item.result c.loop-tile-test.true a) in
     (∥∥₁_elim c.requires le_prop (λ a. (small a).0), ∥∥₁_elim c.requires le_prop (λ a. (small a).1))
 
@@ -22,9 +22,9 @@ loop-tile-init g c = (rw c.new-out.ensures.items, λ k. k)
 pub loop-tile-preserved : goal.loop-tile-preserved
 loop-tile-preserved g c =
     let E = g.R.Ring.exact in let v = g.R.Ring.value in
-    let h = c.in-ok-tile.ensures.is in (
-      push_more (tile_with (coefficients E v)) (fitted_tile E.d) c.args.tiles.now c.loop-tile.tile-index (vec_items c.loop-tile.out) (vec_items c.push.new.self) c.in-ok-tile.tile c.tile-item.result _
-          c.in-ok-push.ensures.items c.loop-tile-test.true c.tile-item.is h.0 c.loop-tile.invariant.0,
+    let h = c.in_ok-tile.ensures.is in (
+      push_more (tile_with (coefficients E v)) (fitted_tile E.d) c.args.tiles.now c.loop-tile.tile-index (vec_items c.loop-tile.out) (vec_items c.push.new.self) c.in_ok-tile.tile c.tile-item.result _
+          c.in_ok-push.ensures.items c.loop-tile-test.true c.tile-item.is h.0 c.loop-tile.invariant.0,
       all_step tile_of (TileOnPlane E) _ c.args.tiles.now c.loop-tile.tile-index c.tile-item.result c.loop-tile-test.true c.tile-item.is h.1 c.loop-tile.invariant.1,
     )
 
@@ -38,11 +38,11 @@ returns g c =
       );
     }
 
-pub returns-in-err-tile : goal.returns-in-err-tile
-returns-in-err-tile g c =
+pub returns-in_err-tile : goal.returns-in_err-tile
+returns-in_err-tile g c =
     let E = g.R.Ring.exact in
-    handed_on c.from-residual.result _ _ _ _
-    (all_row tile_of (TileOnPlane E) c.args.tiles.now c.loop-tile.tile-index c.tile-item.result c.loop-tile-test.true c.tile-item.is) c.in-err-tile.ensures.is c.from-residual.ensures.1
+    handed_on c.from_residual.result _ _ _ _
+    (all_row tile_of (TileOnPlane E) c.args.tiles.now c.loop-tile.tile-index c.tile-item.result c.loop-tile-test.true c.tile-item.is) c.in_err-tile.ensures.is c.from_residual.ensures.1
 
-pub returns-in-err-push : goal.returns-in-err-push
-returns-in-err-push g c = no_memory c.from-residual-in-err-push.result _ _ c.from-residual-in-err-push.ensures.1
+pub returns-in_err-push : goal.returns-in_err-push
+returns-in_err-push g c = no_memory c.from_residual-in_err-push.result _ _ c.from_residual-in_err-push.ensures.1

@@ -7,8 +7,8 @@ use Rattle.tenfold.proofs.TenfoldRing.add.Goals as goal
 pub returns : goal.returns
 returns c = recast c.kept.ensures (quad_same _ _ (omega (arith, ints)) (omega (arith, ints)) (omega (arith, ints)) (omega (arith, ints)))
 
-pub overflow-add-self-4 : goal.overflow-add-self-4
-overflow-add-self-4 c =
+pub overflow_add-self-4 : goal.overflow_add-self-4
+overflow_add-self-4 c =
     let a = c.args.self.near3 in
     let b = c.args.other.near3 in
     omega (arith, ints)

@@ -4,26 +4,26 @@ use Rattle.exact.proofs.TenfoldLaws.{mul_by_rows}
 use Rattle.rings.proofs.Bounds.{recast, linear}
 use Rattle.tenfold.proofs.TenfoldRing.mul.Goals as goal
 
-pub overflow-sub-row0 : goal.overflow-sub-row0
-overflow-sub-row0 c =
+pub overflow_sub-row0 : goal.overflow_sub-row0
+overflow_sub-row0 c =
     let a = c.fourth-fold.ensures.small in
     let b = c.row0.ensures.small in
     omega (arith, linear)
 
-pub overflow-add-row1 : goal.overflow-add-row1
-overflow-add-row1 c =
+pub overflow_add-row1 : goal.overflow_add-row1
+overflow_add-row1 c =
     let a = c.fourth-fold.ensures.small in
     let b = c.row1.ensures.small in
     omega (arith, linear)
 
-pub overflow-sub-row2 : goal.overflow-sub-row2
-overflow-sub-row2 c =
+pub overflow_sub-row2 : goal.overflow_sub-row2
+overflow_sub-row2 c =
     let a = c.fourth-fold.ensures.small in
     let b = c.row2.ensures.small in
     omega (arith, linear)
 
-pub overflow-add-row3 : goal.overflow-add-row3
-overflow-add-row3 c =
+pub overflow_add-row3 : goal.overflow_add-row3
+overflow_add-row3 c =
     let a = c.fourth-fold.ensures.small in
     let b = c.row3.ensures.small in
     omega (arith, linear)

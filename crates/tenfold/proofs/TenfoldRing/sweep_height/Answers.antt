@@ -10,4 +10,4 @@ returns c =
     let f1 : SFits w64 s.c1 = search rules in
     let f2 : SFits w64 s.c2 = search rules in
     let f3 : SFits w64 s.c3 = search rules in
-    height_recast c.height-of.ensures (quad_same _ _ (back_wrapped s.c0 f0) (back_wrapped s.c1 f1) (back_wrapped s.c2 f2) (back_wrapped s.c3 f3))
+    height_recast c.height_of.ensures (quad_same _ _ (back_wrapped s.c0 f0) (back_wrapped s.c1 f1) (back_wrapped s.c2 f2) (back_wrapped s.c3 f3))

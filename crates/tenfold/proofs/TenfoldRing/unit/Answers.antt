@@ -51,7 +51,7 @@ returns-in-8 c =
     let e = c.small-in-8.ensures in
     quad_same _ (power tenfold 8) e.at0 e.at1 e.at2 e.at3 ∙ power_at tenfold tenfold_laws c.args.k 8 c.in-8.is
 
-pub returns-in-default : goal.returns-in-default
-returns-in-default c =
-    let e = c.small-in-default.ensures in
+pub returns-in_default : goal.returns-in_default
+returns-in_default c =
+    let e = c.small-in_default.ensures in
     quad_same _ (power tenfold 9) e.at0 e.at1 e.at2 e.at3 ∙ power_at tenfold tenfold_laws c.args.k 9 (omega arith)

@@ -5,9 +5,9 @@ use Rattle.jobs.specs.Ranges.{InRange}
 use Rattle.rows.specs.Rows.{head_of, part_of, placed_of, tile_of}
 use Rattle.jobs.proofs.job.Job.of.Goals as goal
 
-pub invariant-of-result : goal.invariant-of-result
-invariant-of-result c =
+pub invariant_of-result : goal.invariant_of-result
+invariant_of-result c =
     let d = c.args.draft in
     let a = length-map (vec_items d.subdivisions) (λ v. map part_of (vec_items v)) in
     let b = length-map (vec_items d.labels) head_of in
-    (omega (arith, c.requires.1), (∣ subst (λ n. InRange (numbers_of d.order d.rank (vec_items d.factor) (map head_of (vec_items d.labels)) (map (λ v. map part_of (vec_items v)) (vec_items d.subdivisions)) (map tile_of (vec_items d.tiles)) n (map placed_of (vec_items d.seeds)))) (sym c.unwrap-or-depth.ensures) c.requires.0 ∣₁, tt))
+    (omega (arith, c.requires.1), (∣ subst (λ n. InRange (numbers_of d.order d.rank (vec_items d.factor) (map head_of (vec_items d.labels)) (map (λ v. map part_of (vec_items v)) (vec_items d.subdivisions)) (map tile_of (vec_items d.tiles)) n (map placed_of (vec_items d.seeds)))) (sym c.unwrap_or-depth.ensures) c.requires.0 ∣₁, tt))
