@@ -1,4 +1,6 @@
 // The exact algebra of edges: theorems, asked for by the contracts of functions that do nothing.
+#![tactic(auto)]
+
 ghost use Rattle.chains.specs.Theorems.{SameNetsReadAlike, SweepsReadEdges, InflationKeepsSameNets, PlacingAndInflatingCommute, PlacingKeepsSameNets, ChildrenCompose, ChildrenBalanceTheirParent, AgreeingWhereEdgesOccurIsEnough, MovesConserveTheBoundary, TraversalConservesTheBoundary, OnlyTheRightOutlineConserves, TraversalConservesReadings, NodesAreSeedsAndChildrenInEveryJob, PendingFollowsTheCursorInEveryJob};
 ghost use Rattle.chains.specs.Examples.{ChairIsAccepted, PenroseIsAccepted, OneChairLaidCounts, OutlineSweeps, WrongMarkShows, EachConditionRefuses};
 
@@ -7,7 +9,7 @@ use rings::ring::Ring;
 
 // Chains with equal net counts have equal sums under every reading of edges into a commutative group.
 pub fn same_nets_read_alike<R: Ring, G: Group>() -> u8
-    ensures { SameNetsReadAlike R.exact group }
+    ensures { SameNetsReadAlike R.exact G.group }
 {
     0
 }
@@ -83,7 +85,7 @@ pub fn only_the_right_outline_conserves<R: Ring>() -> u8
 
 // After any moves from the start, what is laid and what is lacking read together as the inflated seed reads.
 pub fn traversal_conserves_readings<R: Ring, G: Group>() -> u8
-    ensures { TraversalConservesReadings R.exact group }
+    ensures { TraversalConservesReadings R.exact G.group }
 {
     0
 }

@@ -1,5 +1,7 @@
 // Bytes and decimal numbers into a buffer. Each function takes the place where it begins and answers the place after
 // what it wrote; past the buffer's end nothing is written.
+#![tactic(auto)]
+
 ghost use Rattle.std.specs.Prelude.{[], ◌∷◌, decimal};
 ghost use Rattle.std.specs.List.{flat_map};
 ghost use Rattle.lines.specs.Spelling.{mark, word};

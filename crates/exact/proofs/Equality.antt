@@ -1,5 +1,6 @@
 -- The test of equality of elements decides equality.
 use Rattle.std.proofs.Common.{◌≡◌, ℕ, Bool, true, false, ◌&&◌, T, eqb, List, [], ◌∷◌, ℤ, pos, negsuc, sym, refl, ap, ◌∙◌, ap₂, true≢false, eqb→eq, eq-eqb}
+use Rattle.std.specs.Cmp.{IsPartialEquivalence}
 use Rattle.exact.specs.Cyclotomic.{Cyclotomic, CyclotomicLaws, same_number, same_list, same_element}
 
 eqb_same : (a b : ℕ) → eqb a b ≡ true → a ≡ b
@@ -40,3 +41,22 @@ module _ (E : Cyclotomic) (laws : CyclotomicLaws E) where
 
   pub same_element_self : (x : E.Elem) → same_element E x x ≡ true
   same_element_self x = same_list_self (E.list x)
+
+-- The test goes both ways round, and along a chain.
+pub alike_tests : (l m : List ℤ) (s t : Bool) → same_list l m ≡ s → same_list m l ≡ t → s ≡ t
+alike_tests l m true true p q = refl
+alike_tests l m false false p q = refl
+alike_tests l m true false p q = absurd (true≢false (sym (same_list_self l) ∙ ap (same_list l) (same_list_is l m p) ∙ swapped (same_list_is l m p) ∙ q))
+  where
+    swapped : l ≡ m → same_list l m ≡ same_list m l
+    swapped e = ap₂ same_list e (sym e)
+alike_tests l m false true p q = absurd (true≢false (sym (same_list_self m) ∙ ap (same_list m) (same_list_is m l q) ∙ swapped (same_list_is m l q) ∙ p))
+  where
+    swapped : m ≡ l → same_list m l ≡ same_list l m
+    swapped e = ap₂ same_list e (sym e)
+
+pub same_element_partial_equivalence : (E : Cyclotomic) → IsPartialEquivalence (same_element E)
+same_element_partial_equivalence E = record {
+  symm = λ x y. alike_tests (E.list x) (E.list y) _ _ refl refl;
+  trans = λ x y z p q. ap (λ l. same_list l (E.list z)) (same_list_is (E.list x) (E.list y) p) ∙ q;
+}

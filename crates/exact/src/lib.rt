@@ -1,4 +1,6 @@
 // The mathematics of the rings: theorems, asked for by the contracts of functions that do nothing.
+#![tactic(auto)]
+
 ghost use Rattle.exact.specs.Cyclotomic.{CyclotomicLaws};
 ghost use Rattle.exact.specs.Groups.{AbelianLaws};
 ghost use Rattle.exact.specs.Residues.{totals};

@@ -1,4 +1,6 @@
 // The faults of a job's text, and of a buffer for it.
+#![tactic(auto)]
+
 ghost use Rattle.faults.specs.Told.{text_refusal, buffer_refusal};
 
 use refusals::{Fault, Layer};

@@ -1,4 +1,6 @@
 // Z[i] on the plane.
+#![tactic(auto)]
+
 ghost use Rattle.std.specs.Prelude.{◌≡◌, [], ◌∷◌, ℤ};
 ghost use Rattle.exact.specs.Cyclotomic.{same_element};
 ghost use Rattle.exact.specs.Residues.{totals};
@@ -7,8 +9,9 @@ ghost use Rattle.exact.specs.Models.{gaussian};
 ghost use Rattle.exact.specs.Sizes.{Between};
 ghost use Rattle.rings.specs.Plane.{plane_bound};
 ghost use Rattle.rings.specs.Answers.{Exactly, HeightOf};
-ghost use Rattle.std.specs.Cmp.Rules.{comparing};
+ghost use Rattle.std.specs.Cmp.{on_per};
 ghost use Rattle.std.proofs.Common.{rules, arith};
+ghost use Rattle.exact.proofs.Equality.{same_element_partial_equivalence};
 ghost use Rattle.exact.proofs.Totals.{totals_laws, row_ends};
 ghost use Rattle.exact.proofs.GaussianLaws.{gaussian_laws};
 ghost use Rattle.exact.proofs.Sizes.{gaussian_sizes};
@@ -67,7 +70,7 @@ fn height_of(c0: i64, c1: i64) -> Result<i8, RingFault>
 impl PartialEq for Gaussian {
     ghost eq = { λ a b. same_element gaussian (record { c0 = a.c0; c1 = a.c1 }) (record { c0 = b.c0; c1 = b.c1 }) };
 
-    ghost laws = { first_of (Prim.search (comparing, rules), Prim.grind (arith, Self.row.coded.inj)) };
+    ghost laws = { on_per (λ a. record { c0 = a.c0; c1 = a.c1 }) (same_element_partial_equivalence gaussian) };
 
     fn eq(&self, other: &Gaussian) -> bool {
         if self.c0 != other.c0 {

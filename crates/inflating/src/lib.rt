@@ -1,4 +1,6 @@
 // Inflation: every edge gives way to its label's subdivision.
+#![tactic(auto)]
+
 ghost use Rattle.std.specs.Prelude.{◌≡◌, ◌++◌, map};
 ghost use Rattle.chains.specs.Books.{label_at};
 ghost use Rattle.chains.specs.Counts.{scaled};

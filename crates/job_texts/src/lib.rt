@@ -1,4 +1,6 @@
 // The text of a job, into a caller's buffer.
+#![tactic(auto)]
+
 ghost use Rattle.std.specs.Prelude.{◌≡◌, ◌<◌, ◌≤◌, ◌++◌, length, take, drop, MatchResult};
 ghost use Rattle.jobs.specs.Jobs.{numbers};
 ghost use Rattle.digits.specs.Puts.{Puts};

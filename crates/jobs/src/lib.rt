@@ -1,4 +1,6 @@
 // A job as plain numbers, read from its text.
+#![tactic(auto)]
+
 mod adding;
 mod decoding;
 mod draft;

@@ -1,4 +1,6 @@
 // The lines of a text: each a letter, then numbers after single spaces, then a line feed.
+#![tactic(auto)]
+
 ghost use Rattle.std.specs.Prelude.{◌≡◌, ℕ, ◌<◌, ◌≤◌, List, ◌∷◌, ◌++◌, length, ℤ, MatchOption, MatchResult, ◌≢◌, slice_index};
 ghost use Rattle.std.specs.Str.Parse.{digits_value};
 ghost use Rattle.std.specs.Int.{IsInRange};

@@ -1,4 +1,6 @@
 // Reads a job from standard input and tells it in words. A refused job gives the one line `refused N P`, and status 1.
+#![tactic(auto)]
+
 mod words;
 
 use anyhow::anyhow;

@@ -1,4 +1,6 @@
 // The nodes of a job over a ring: which there are, and where they lie.
+#![tactic(auto)]
+
 pub mod address;
 pub mod composing;
 pub mod fault;

@@ -1,4 +1,6 @@
 // How every layer tells of a refusal: a number, a place and the layer it arose in.
+#![tactic(auto)]
+
 ghost use Rattle.std.specs.Prelude.{◌≡◌};
 ghost use Rattle.refusals.specs.Refusal.{Refusal};
 

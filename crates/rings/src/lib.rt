@@ -1,4 +1,6 @@
 // Rings of cyclotomic integers whose coefficients stay on the plane, with every operation exact.
+#![tactic(auto)]
+
 pub mod fault;
 pub mod group;
 pub mod plane;

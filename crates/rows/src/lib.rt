@@ -1,4 +1,6 @@
 // The rows of a job: numbers only, with no meaning in a ring. And the limits of a job and of its text.
+#![tactic(auto)]
+
 pub mod limits;
 
 // An edge label: arrowed or plain, and its length as coefficients.

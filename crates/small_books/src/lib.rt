@@ -1,5 +1,7 @@
 // Books whose coefficients are at most 32 in size, over rings whose operations enlarge coefficients little:
 // nothing that their check works out comes near the plane's bound, so it decides exactly whether the book is accepted.
+#![tactic(auto)]
+
 ghost use Rattle.std.specs.Result.{MatchResult};
 ghost use Rattle.chains.specs.Accepted.{Accepted};
 ghost use Rattle.edges.specs.Views.{book_view};

@@ -1,4 +1,6 @@
 // Z[ζ10] on the plane.
+#![tactic(auto)]
+
 ghost use Rattle.std.specs.Prelude.{◌≡◌, ◌+◌, ◌*◌, [], ◌∷◌, ℤ, pos, ◌+ℤ◌, ◌-ℤ◌, ◌*ℤ◌, neg_ℤ, ◌≤ℤ◌};
 ghost use Rattle.exact.specs.Cyclotomic.{same_element};
 ghost use Rattle.exact.specs.Residues.{totals};
@@ -8,8 +10,9 @@ ghost use Rattle.exact.specs.Sweeps.{row_total};
 ghost use Rattle.exact.specs.Models.{tenfold};
 ghost use Rattle.rings.specs.Plane.{plane_bound, height_bound, products};
 ghost use Rattle.rings.specs.Answers.{Exactly, HeightOf};
-ghost use Rattle.std.specs.Cmp.Rules.{comparing};
+ghost use Rattle.std.specs.Cmp.{on_per};
 ghost use Rattle.std.proofs.Common.{rules, arith};
+ghost use Rattle.exact.proofs.Equality.{same_element_partial_equivalence};
 ghost use Rattle.exact.proofs.Totals.{totals_laws, row_ends};
 ghost use Rattle.exact.proofs.TenfoldLaws.{tenfold_laws};
 ghost use Rattle.exact.proofs.Sizes.{tenfold_sizes};
@@ -189,7 +192,7 @@ fn height_of(c0: i64, c1: i64, c2: i64, c3: i64) -> Result<i8, RingFault>
 impl PartialEq for Tenfold {
     ghost eq = { λ a b. same_element tenfold (record { c0 = a.c0; c1 = a.c1; c2 = a.c2; c3 = a.c3 }) (record { c0 = b.c0; c1 = b.c1; c2 = b.c2; c3 = b.c3 }) };
 
-    ghost laws = { first_of (Prim.search (comparing, rules), Prim.grind (arith, Self.row.coded.inj)) };
+    ghost laws = { on_per (λ a. record { c0 = a.c0; c1 = a.c1; c2 = a.c2; c3 = a.c3 }) (same_element_partial_equivalence tenfold) };
 
     fn eq(&self, other: &Tenfold) -> bool {
         if self.c0 != other.c0 || self.c1 != other.c1 || self.c2 != other.c2 {

@@ -1,4 +1,6 @@
 // Fixed cases of every layer: those on one list are shown from the definitions, the others are run.
+#![tactic(auto)]
+
 ghost use Rattle.vectors.specs.Cases.{EveryCaseHolds, fixed_cases};
 
 #[cfg(test)]
