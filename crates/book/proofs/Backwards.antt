@@ -8,8 +8,8 @@ use Rattle.exact.specs.JobNumbers as numbers
 use Rattle.chains.specs.Books as books
 use Rattle.chains.specs.Books.{label_at}
 use Rattle.chains.specs.Accepted.{backwards, turned_part}
-use Rattle.rows.specs.declared.Part.{Part}
-use Rattle.rows.specs.Rows.{part_of}
+use Rattle.edges.specs.declared.rows.Part.{Part}
+use Rattle.edges.specs.Views.{part_view}
 
 module _ (E : Cyclotomic) (B : books.Book E) where
   pub back_length : (ps : List numbers.Part) → length (backwards E B ps) ≡ length ps
@@ -39,26 +39,26 @@ module _ (E : Cyclotomic) (B : books.Book E) where
   -- what stands at a place of a list of rows
   module _ (row : List Part) where
     unfoldable pub Mirrors_at : ℕ → Type 0
-    Mirrors_at k = (d : numbers.Part) → get_or (backwards E B (map part_of row)) k d ≡ get_or (map part_of row) k d
+    Mirrors_at k = (d : numbers.Part) → get_or (backwards E B (map part_view row)) k d ≡ get_or (map part_view row) k d
 
-    pub mirrors_at : (k : ℕ) (e : Part) → k < length row → part_of (get_or row k e) ≡ turned_part E B (part_of (get_or row (length row - 1 - k) e)) → Mirrors_at k
+    pub mirrors_at : (k : ℕ) (e : Part) → k < length row → part_view (get_or row k e) ≡ turned_part E B (part_view (get_or row (length row - 1 - k) e)) → Mirrors_at k
     unfolding Mirrors_at
     mirrors_at k e h m d =
-        back_at (map part_of row) k d (simp length-map h)
-        ∙ ap (turned_part E B) (ap (λ n. get_or (map part_of row) (n - 1 - k) d) (length-map row part_of) ∙ get_or-map part_of row (length row - 1 - k) e d (omega arith))
-        ∙ sym m ∙ sym (get_or-map part_of row k e d h)
+        back_at (map part_view row) k d (simp length-map h)
+        ∙ ap (turned_part E B) (ap (λ n. get_or (map part_view row) (n - 1 - k) d) (length-map row part_view) ∙ get_or-map part_view row (length row - 1 - k) e d (omega arith))
+        ∙ sym m ∙ sym (get_or-map part_view row k e d h)
 
-    pub mirrors_of : (k : ℕ) (e : Part) → k < length row → Mirrors_at k → part_of (get_or row k e) ≡ turned_part E B (part_of (get_or row (length row - 1 - k) e))
+    pub mirrors_of : (k : ℕ) (e : Part) → k < length row → Mirrors_at k → part_view (get_or row k e) ≡ turned_part E B (part_view (get_or row (length row - 1 - k) e))
     unfolding Mirrors_at
     mirrors_of k e h m =
-        sym (get_or-map part_of row k e (part_of e) h) ∙ sym (m (part_of e)) ∙ back_at (map part_of row) k (part_of e) (simp length-map h)
-        ∙ ap (turned_part E B) (ap (λ n. get_or (map part_of row) (n - 1 - k) (part_of e)) (length-map row part_of) ∙ get_or-map part_of row (length row - 1 - k) e (part_of e) (omega arith))
+        sym (get_or-map part_view row k e (part_view e) h) ∙ sym (m (part_view e)) ∙ back_at (map part_view row) k (part_view e) (simp length-map h)
+        ∙ ap (turned_part E B) (ap (λ n. get_or (map part_view row) (n - 1 - k) (part_view e)) (length-map row part_view) ∙ get_or-map part_view row (length row - 1 - k) e (part_view e) (omega arith))
 
-    pub all_mirror : ((k : ℕ) → k < length row → Mirrors_at k) → backwards E B (map part_of row) ≡ map part_of row
+    pub all_mirror : ((k : ℕ) → k < length row → Mirrors_at k) → backwards E B (map part_view row) ≡ map part_view row
     unfolding Mirrors_at
-    all_mirror h = same_lists _ _ (back_length (map part_of row)) (λ k d l. h k (subst (◌<◌ k) (back_length (map part_of row) ∙ length-map row part_of) l) d)
+    all_mirror h = same_lists _ _ (back_length (map part_view row)) (λ k d l. h k (subst (◌<◌ k) (back_length (map part_view row) ∙ length-map row part_view) l) d)
 
-    pub mirror_each : backwards E B (map part_of row) ≡ map part_of row → (k : ℕ) → Mirrors_at k
+    pub mirror_each : backwards E B (map part_view row) ≡ map part_view row → (k : ℕ) → Mirrors_at k
     unfolding Mirrors_at
     mirror_each e k d = ap (λ l. get_or l k d) e
 

@@ -11,9 +11,9 @@ use Rattle.chains.specs.Books.{Book}
 use Rattle.chains.specs.Accepted.{Accepted}
 use Rattle.chains.proofs.Lists.{all_append, all_front, all_back}
 use Rattle.edges.specs.Views.{edge_view}
-use Rattle.outlines.specs.declared.fault.ChainFault.{ChainFault}
-use Rattle.outlines.specs.declared.fault.ChainFault.TheVariants as chain
-use Rattle.outlines.specs.Answers.{Excused}
+use Rattle.edges.specs.declared.fault.ChainFault.{ChainFault}
+use Rattle.edges.specs.declared.fault.ChainFault.TheVariants as chain
+use Rattle.edges.specs.Answers.{Excused}
 use Rattle.book.specs.declared.fault.BookFault.{BookFault}
 use Rattle.book.specs.declared.fault.BookFault.TheVariants.{Factor, Length, Subdivision, Outline, Unbalanced, Ring, Memory}
 use Rattle.book.specs.Faults.{passed_on}

@@ -16,7 +16,7 @@ use Rattle.edges.specs.declared.rows.Label.{Label}
 use Rattle.edges.specs.declared.rows.Tile.{Tile}
 use Rattle.edges.specs.declared.rows.Book.{Book}
 use Rattle.edges.specs.declared.rows.Counted.{Counted}
-use Rattle.rows.specs.Limits.{most_parts, most_steps, most_children}
+use Rattle.edges.specs.Limits.{most_parts, most_steps, most_children}
 use Rattle.edges.specs.Views.{book_view, label_view, tile_view, counted_view, chain_view}
 use Rattle.edges.proofs.Numbered.{no_label, no_tile}
 

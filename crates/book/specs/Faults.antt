@@ -3,8 +3,8 @@ use Rattle.std.specs.Prelude.{◌≡◌, ℕ, Some, None}
 use Rattle.refusals.specs.Refusal.{Refusal}
 use Rattle.refusals.specs.declared.Layer.TheVariants as layers
 use Rattle.rings.specs.Faults.{ring_refusal}
-use Rattle.outlines.specs.declared.fault.ChainFault.{ChainFault}
-use Rattle.outlines.specs.declared.fault.ChainFault.TheVariants as chain
+use Rattle.edges.specs.declared.fault.ChainFault.{ChainFault}
+use Rattle.edges.specs.declared.fault.ChainFault.TheVariants as chain
 use Rattle.book.specs.declared.fault.BookFault.{BookFault}
 use Rattle.book.specs.declared.fault.BookFault.TheVariants.{Factor, Length, Subdivision, Outline, Unbalanced, Ring, Memory}
 

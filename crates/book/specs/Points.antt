@@ -12,8 +12,7 @@ use Rattle.chains.specs.Inflation.{inflate}
 use Rattle.chains.specs.Placements.{outline, outlines}
 use Rattle.chains.specs.Accepted.{lengths, total_sweep, FactorAboveOne, LengthAboveZero, SubdivisionFits, OutlineCloses, ChildrenBalance, Accepted}
 use Rattle.edges.specs.Views.{edge_view}
-use Rattle.outlines.specs.Working.{KeptOutline, KeptPlacedOutline, KeptForms}
-use Rattle.inflating.specs.Working.{KeptInflated}
+use Rattle.edges.specs.Working.{KeptOutline, KeptPlacedOutline, KeptInflated, KeptForms}
 use Rattle.book.specs.Differences.{UnbalancedAt}
 use Rattle.book.specs.declared.fault.BookFault.{BookFault}
 use Rattle.book.specs.declared.fault.BookFault.TheVariants.{Factor, Length, Subdivision, Outline, Unbalanced, Ring, Memory}

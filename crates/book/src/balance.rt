@@ -6,20 +6,19 @@ ghost use Rattle.chains.specs.Edges.{canonical};
 ghost use Rattle.chains.specs.Inflation.{inflate};
 ghost use Rattle.chains.specs.Placements.{outline, outlines};
 ghost use Rattle.chains.specs.Accepted.{ChildrenBalance};
-ghost use Rattle.outlines.specs.Answers.{Made};
+ghost use Rattle.edges.specs.Answers.{Made};
 ghost use Rattle.edges.specs.Views.{chain_view, edge_view, book_view};
-ghost use Rattle.outlines.specs.Working.{KeptOutline, KeptPlacedOutline, KeptForms};
-ghost use Rattle.inflating.specs.Working.{KeptInflated};
+ghost use Rattle.edges.specs.Working.{KeptOutline, KeptPlacedOutline, KeptInflated, KeptForms};
 ghost use Rattle.book.specs.Differences.{UnbalancedAt};
 ghost use Rattle.book.specs.Points.{KeptBalance};
 
 use crate::fault::Difference;
 use crate::nets::first_difference;
+use edges::fault::ChainFault;
+use edges::inflating::inflate_chain;
+use edges::placing::{canonical_chain, outlines_at};
 use edges::rows::{Book, Counted};
-use inflating::inflate_chain;
-use outlines::fault::ChainFault;
-use outlines::placing::{canonical_chain, outlines_at};
-use outlines::walks::outline_of;
+use edges::walks::outline_of;
 use rings::ring::Ring;
 use std::alloc::Global;
 
@@ -30,8 +29,8 @@ fn children_outlines<R: Ring>(
     t: usize,
 ) -> Result<Vec<Counted<R>>, ChainFault>
     ensures { Made result
-        (λ v. chain_view exact value v.items ≡ outlines exact (book_view exact value book.now) (tile_at (book_view exact value book.now) t).children)
-        (All (KeptPlacedOutline exact (book_view exact value book.now)) (tile_at (book_view exact value book.now) t).children) }
+        (λ v. chain_view R.exact R.value v.items ≡ outlines R.exact (book_view R.exact R.value book.now) (tile_at (book_view R.exact R.value book.now) t).children)
+        (All (KeptPlacedOutline R.exact (book_view R.exact R.value book.now)) (tile_at (book_view R.exact R.value book.now) t).children) }
 {
     if t < book.tiles.len() {
         outlines_at(heap, book, book.tiles[t].children.as_slice())
@@ -47,9 +46,9 @@ fn children_forms<R: Ring>(
     t: usize,
 ) -> Result<Vec<Counted<R>>, ChainFault>
     ensures { Made result
-        (λ v. chain_view exact value v.items ≡ map (canonical exact (book_view exact value book.now)) (outlines exact (book_view exact value book.now) (tile_at (book_view exact value book.now) t).children))
-        (All (KeptPlacedOutline exact (book_view exact value book.now)) (tile_at (book_view exact value book.now) t).children
-        × KeptForms exact (book_view exact value book.now) (outlines exact (book_view exact value book.now) (tile_at (book_view exact value book.now) t).children)) }
+        (λ v. chain_view R.exact R.value v.items ≡ map (canonical R.exact (book_view R.exact R.value book.now)) (outlines R.exact (book_view R.exact R.value book.now) (tile_at (book_view R.exact R.value book.now) t).children))
+        (All (KeptPlacedOutline R.exact (book_view R.exact R.value book.now)) (tile_at (book_view R.exact R.value book.now) t).children
+        × KeptForms R.exact (book_view R.exact R.value book.now) (outlines R.exact (book_view R.exact R.value book.now) (tile_at (book_view R.exact R.value book.now) t).children)) }
 {
     let chain = children_outlines(heap, book, t)?;
     canonical_chain(heap, book, chain.as_slice())
@@ -62,10 +61,10 @@ fn inflated_forms<R: Ring>(
     t: usize,
 ) -> Result<Vec<Counted<R>>, ChainFault>
     ensures { Made result
-        (λ v. chain_view exact value v.items ≡ map (canonical exact (book_view exact value book.now)) (inflate exact (book_view exact value book.now) (outline exact (book_view exact value book.now) t)))
-        (KeptOutline exact (book_view exact value book.now) t
-        × KeptInflated exact (book_view exact value book.now) (outline exact (book_view exact value book.now) t)
-        × KeptForms exact (book_view exact value book.now) (inflate exact (book_view exact value book.now) (outline exact (book_view exact value book.now) t))) }
+        (λ v. chain_view R.exact R.value v.items ≡ map (canonical R.exact (book_view R.exact R.value book.now)) (inflate R.exact (book_view R.exact R.value book.now) (outline R.exact (book_view R.exact R.value book.now) t)))
+        (KeptOutline R.exact (book_view R.exact R.value book.now) t
+        × KeptInflated R.exact (book_view R.exact R.value book.now) (outline R.exact (book_view R.exact R.value book.now) t)
+        × KeptForms R.exact (book_view R.exact R.value book.now) (inflate R.exact (book_view R.exact R.value book.now) (outline R.exact (book_view R.exact R.value book.now) t))) }
 {
     let outline = outline_of(heap, book, t)?;
     let inflated = inflate_chain(heap, book, outline.as_slice())?;
@@ -73,14 +72,14 @@ fn inflated_forms<R: Ring>(
 }
 
 // The first edge that tile t's children and its inflated outline count differently, if there is one.
-pub(crate) fn tile_difference<R: Ring>(
+pub fn tile_difference<R: Ring>(
     heap: Global,
     book: &Book<R>,
     t: usize,
 ) -> Result<Option<Difference<R>>, ChainFault>
     ensures { Made result
-        (λ o. MatchOption o (ChildrenBalance exact (book_view exact value book.now) t) (λ d. UnbalancedAt exact (book_view exact value book.now) t (edge_view exact value d.edge) d.amount))
-        (KeptBalance exact (book_view exact value book.now) t) }
+        (λ o. MatchOption o (ChildrenBalance R.exact (book_view R.exact R.value book.now) t) (λ d. UnbalancedAt R.exact (book_view R.exact R.value book.now) t (edge_view R.exact R.value d.edge) d.amount))
+        (KeptBalance R.exact (book_view R.exact R.value book.now) t) }
 {
     let parts = children_forms(heap, book, t)?;
     let whole = inflated_forms(heap, book, t)?;

@@ -15,7 +15,7 @@ use std::alloc::Global;
 
 // The factor is real and above 1.
 fn check_factor<R: Ring>(book: &Book<R>) -> Result<(), BookFault<R>>
-    ensures { Judged exact (book_view exact value book.now) value result (the_factor ∷ []) }
+    ensures { Judged R.exact (book_view R.exact R.value book.now) R.value result (the_factor ∷ []) }
 {
     let fits = factor_fits(book)?;
     if !fits {
@@ -26,7 +26,7 @@ fn check_factor<R: Ring>(book: &Book<R>) -> Result<(), BookFault<R>>
 
 // Every length is real and above 0.
 fn check_lengths<R: Ring>(book: &Book<R>) -> Result<(), BookFault<R>>
-    ensures { Judged exact (book_view exact value book.now) value result (length_points exact (book_view exact value book.now)) }
+    ensures { Judged R.exact (book_view R.exact R.value book.now) R.value result (length_points R.exact (book_view R.exact R.value book.now)) }
 {
     for e in 0..book.labels.len() {
         let fits = length_fits(book, e)?;
@@ -39,7 +39,7 @@ fn check_lengths<R: Ring>(book: &Book<R>) -> Result<(), BookFault<R>>
 
 // Every subdivision fits its label.
 fn check_subdivisions<R: Ring>(book: &Book<R>) -> Result<(), BookFault<R>>
-    ensures { Judged exact (book_view exact value book.now) value result (subdivision_points exact (book_view exact value book.now)) }
+    ensures { Judged R.exact (book_view R.exact R.value book.now) R.value result (subdivision_points R.exact (book_view R.exact R.value book.now)) }
 {
     for label in 0..book.labels.len() {
         let fits = subdivision_fits(book, label)?;
@@ -52,7 +52,7 @@ fn check_subdivisions<R: Ring>(book: &Book<R>) -> Result<(), BookFault<R>>
 
 // Every outline closes, with a positive area.
 fn check_outlines<R: Ring>(book: &Book<R>) -> Result<(), BookFault<R>>
-    ensures { Judged exact (book_view exact value book.now) value result (outline_points exact (book_view exact value book.now)) }
+    ensures { Judged R.exact (book_view R.exact R.value book.now) R.value result (outline_points R.exact (book_view R.exact R.value book.now)) }
 {
     for t in 0..book.tiles.len() {
         let closes = outline_closes(book, t)?;
@@ -65,7 +65,7 @@ fn check_outlines<R: Ring>(book: &Book<R>) -> Result<(), BookFault<R>>
 
 // Every tile's children balance its inflated outline.
 fn check_children<R: Ring>(heap: Global, book: &Book<R>) -> Result<(), BookFault<R>>
-    ensures { Judged exact (book_view exact value book.now) value result (children_points exact (book_view exact value book.now)) }
+    ensures { Judged R.exact (book_view R.exact R.value book.now) R.value result (children_points R.exact (book_view R.exact R.value book.now)) }
 {
     for tile in 0..book.tiles.len() {
         let found = tile_difference(heap, book, tile)?;
@@ -78,10 +78,10 @@ fn check_children<R: Ring>(heap: Global, book: &Book<R>) -> Result<(), BookFault
 
 // The check of a book, point by point, each over all labels or tiles before the next: the first fault, or the book is accepted.
 pub fn check<R: Ring>(heap: Global, book: &Book<R>) -> Result<(), BookFault<R>>
-    ensures first { Judged exact (book_view exact value book.now) value result (points exact (book_view exact value book.now)) }
+    ensures first { Judged R.exact (book_view R.exact R.value book.now) R.value result (points R.exact (book_view R.exact R.value book.now)) }
     ensures decides { MatchResult result
-        (λ _. Accepted exact (book_view exact value book.now) × WorkedOnThePlane exact (book_view exact value book.now))
-        (Rejects exact (book_view exact value book.now) value) }
+        (λ _. Accepted R.exact (book_view R.exact R.value book.now) × WorkedOnThePlane R.exact (book_view R.exact R.value book.now))
+        (Rejects R.exact (book_view R.exact R.value book.now) R.value) }
 {
     check_factor(book)?;
     check_lengths(book)?;

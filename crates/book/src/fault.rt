@@ -3,8 +3,8 @@ ghost use Rattle.std.specs.Prelude.{◌≡◌};
 ghost use Rattle.book.specs.Faults.{book_refusal, passed_on};
 ghost use Rattle.book.specs.declared.fault.BookFault.TheVariants.{Ring};
 
+use edges::fault::ChainFault;
 use edges::rows::Edge;
-use outlines::fault::ChainFault;
 use refusals::{Fault, Layer};
 use rings::fault::RingFault;
 

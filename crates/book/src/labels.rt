@@ -3,27 +3,25 @@ ghost use Rattle.std.specs.Prelude.{◌≡◌, ◌<◌, map, pos, vec_len, Decid
 ghost use Rattle.rings.specs.Plane.{OnPlane};
 ghost use Rattle.chains.specs.Accepted.{lengths, backwards, turned_part, FactorAboveOne, LengthAboveZero, SubdivisionFits};
 ghost use Rattle.edges.specs.Answers.{Worked};
-ghost use Rattle.rows.specs.Rows.{part_of};
-ghost use Rattle.edges.specs.Views.{book_view};
+ghost use Rattle.edges.specs.Views.{part_view, book_view};
 ghost use Rattle.book.specs.Points.{KeptFactor, KeptLength, KeptLengths, KeptSubdivision, Tested};
 
 use edges::lookups::{is_arrowed, length_of};
-use edges::rows::Book;
+use edges::rows::{Book, Part};
 use rings::fault::RingFault;
 use rings::ring::Ring;
-use rows::Part;
 
 // Whether z is its own conjugate.
-fn is_real<R: Ring>(z: R) -> Result<bool, RingFault>
-    ensures { Worked result (λ b. Decides b (exact.conj (value z) ≡ value z)) (OnPlane exact (exact.conj (value z))) }
+pub fn is_real<R: Ring>(z: R) -> Result<bool, RingFault>
+    ensures { Worked result (λ b. Decides b (R.exact.conj (R.value z) ≡ R.value z)) (OnPlane R.exact (R.exact.conj (R.value z))) }
 {
     let conjugate = z.conj()?;
     Ok(conjugate == z)
 }
 
 // Whether ζ·z lies above the real axis: of a real z, whether it is above 0.
-fn is_positive<R: Ring>(z: R) -> Result<bool, RingFault>
-    ensures { Worked result (λ b. Decides b (exact.height (exact.mul exact.zeta (value z)) ≡ pos 1)) (OnPlane exact (exact.mul exact.zeta (value z))) }
+pub fn is_positive<R: Ring>(z: R) -> Result<bool, RingFault>
+    ensures { Worked result (λ b. Decides b (R.exact.height (R.exact.mul R.exact.zeta (R.value z)) ≡ pos 1)) (OnPlane R.exact (R.exact.mul R.exact.zeta (R.value z))) }
 {
     let raised = z.turn(1)?;
     let height = raised.height()?;
@@ -31,8 +29,8 @@ fn is_positive<R: Ring>(z: R) -> Result<bool, RingFault>
 }
 
 // Whether the factor is real and above 1.
-pub(crate) fn factor_fits<R: Ring>(book: &Book<R>) -> Result<bool, RingFault>
-    ensures { Tested result (FactorAboveOne exact (book_view exact value book.now)) (KeptFactor exact (book_view exact value book.now)) }
+pub fn factor_fits<R: Ring>(book: &Book<R>) -> Result<bool, RingFault>
+    ensures { Tested result (FactorAboveOne R.exact (book_view R.exact R.value book.now)) (KeptFactor R.exact (book_view R.exact R.value book.now)) }
 {
     let real = is_real(book.factor)?;
     if !real {
@@ -43,8 +41,8 @@ pub(crate) fn factor_fits<R: Ring>(book: &Book<R>) -> Result<bool, RingFault>
 }
 
 // Whether label e's length is real and above 0.
-pub(crate) fn length_fits<R: Ring>(book: &Book<R>, e: usize) -> Result<bool, RingFault>
-    ensures { Tested result (LengthAboveZero exact (book_view exact value book.now) e) (KeptLength exact (book_view exact value book.now) e) }
+pub fn length_fits<R: Ring>(book: &Book<R>, e: usize) -> Result<bool, RingFault>
+    ensures { Tested result (LengthAboveZero R.exact (book_view R.exact R.value book.now) e) (KeptLength R.exact (book_view R.exact R.value book.now) e) }
 {
     let length = length_of(book, e);
     let real = is_real(length)?;
@@ -56,7 +54,7 @@ pub(crate) fn length_fits<R: Ring>(book: &Book<R>, e: usize) -> Result<bool, Rin
 
 // Whether a is b as it reads from its other end: an arrowed sense is turned.
 fn mirrors<R: Ring>(book: &Book<R>, a: Part, b: Part) -> bool
-    ensures { Decides result (part_of a ≡ turned_part exact (book_view exact value book.now) (part_of b)) }
+    ensures { Decides result (part_view a ≡ turned_part R.exact (book_view R.exact R.value book.now) (part_view b)) }
 {
     if a.label != b.label {
         return false;
@@ -69,8 +67,8 @@ fn mirrors<R: Ring>(book: &Book<R>, a: Part, b: Part) -> bool
 }
 
 // Whether some parts, read backwards with arrowed senses turned, are themselves.
-fn is_palindrome<R: Ring>(book: &Book<R>, parts: &[Part]) -> bool
-    ensures { Decides result (backwards exact (book_view exact value book.now) (map part_of parts.now) ≡ map part_of parts.now) }
+pub fn is_palindrome<R: Ring>(book: &Book<R>, parts: &[Part]) -> bool
+    ensures { Decides result (backwards R.exact (book_view R.exact R.value book.now) (map part_view parts.now) ≡ map part_view parts.now) }
 {
     let n = parts.len();
     for i in 0..n {
@@ -84,8 +82,8 @@ fn is_palindrome<R: Ring>(book: &Book<R>, parts: &[Part]) -> bool
 }
 
 // The lengths of some parts added up, whatever their senses.
-fn total_length<R: Ring>(book: &Book<R>, parts: &[Part]) -> Result<R, RingFault>
-    ensures { Worked result (λ z. value z ≡ lengths exact (book_view exact value book.now) (map part_of parts.now)) (KeptLengths exact (book_view exact value book.now) (map part_of parts.now)) }
+pub fn total_length<R: Ring>(book: &Book<R>, parts: &[Part]) -> Result<R, RingFault>
+    ensures { Worked result (λ z. R.value z ≡ lengths R.exact (book_view R.exact R.value book.now) (map part_view parts.now)) (KeptLengths R.exact (book_view R.exact R.value book.now) (map part_view parts.now)) }
 {
     let mut total = R::zero();
     for i in (0..parts.len()).rev() {
@@ -97,7 +95,7 @@ fn total_length<R: Ring>(book: &Book<R>, parts: &[Part]) -> Result<R, RingFault>
 // Whether label e's subdivision fills its stretched length and, where e is plain, reads the same from both ends.
 pub(crate) fn subdivision_fits<R: Ring>(book: &Book<R>, e: usize) -> Result<bool, RingFault>
     requires { e < vec_len book.now.labels }
-    ensures { Tested result (SubdivisionFits exact (book_view exact value book.now) e) (KeptSubdivision exact (book_view exact value book.now) e) }
+    ensures { Tested result (SubdivisionFits R.exact (book_view R.exact R.value book.now) e) (KeptSubdivision R.exact (book_view R.exact R.value book.now) e) }
 {
     let label = &book.labels[e];
     let total = total_length(book, label.subdivision.as_slice())?;

@@ -10,8 +10,8 @@ use edges::rows::{Counted, Edge};
 use rings::ring::Ring;
 
 // Whether two edges are the same: label, direction and start.
-fn equal<R: Ring>(a: &Edge<R>, b: &Edge<R>) -> bool
-    ensures { result ≡ same_edge exact (edge_view exact value a.now) (edge_view exact value b.now) }
+pub(crate) fn equal<R: Ring>(a: &Edge<R>, b: &Edge<R>) -> bool
+    ensures { result ≡ same_edge R.exact (edge_view R.exact R.value a.now) (edge_view R.exact R.value b.now) }
 {
     if a.label != b.label {
         return false;
@@ -24,7 +24,7 @@ fn equal<R: Ring>(a: &Edge<R>, b: &Edge<R>) -> bool
 
 // What an entry adds to the net count of an edge.
 fn share<R: Ring>(x: &Counted<R>, e: &Edge<R>) -> i8
-    ensures { result ≡ (if same_edge exact (edge_view exact value x.now.edge) (edge_view exact value e.now) then count_of x.now.back else pos 0) }
+    ensures { result ≡ (if same_edge R.exact (edge_view R.exact R.value x.now.edge) (edge_view R.exact R.value e.now) then count_of x.now.back else pos 0) }
 {
     if !equal(&x.edge, e) {
         return 0;
@@ -33,9 +33,9 @@ fn share<R: Ring>(x: &Counted<R>, e: &Edge<R>) -> i8
 }
 
 // The net count of an edge over a chain.
-fn net<R: Ring>(chain: &[Counted<R>], e: &Edge<R>) -> i64
+pub(crate) fn net<R: Ring>(chain: &[Counted<R>], e: &Edge<R>) -> i64
     requires { length chain.now ≤ 65536 }
-    ensures is { result ≡ tally (same_edge exact) (chain_view exact value chain.now) (edge_view exact value e.now) }
+    ensures is { result ≡ tally (same_edge R.exact) (chain_view R.exact R.value chain.now) (edge_view R.exact R.value e.now) }
     ensures low { negsuc 8388607 ≤ℤ result }
     ensures high { result ≤ℤ pos 8388608 }
 {
@@ -49,7 +49,7 @@ fn net<R: Ring>(chain: &[Counted<R>], e: &Edge<R>) -> i64
 // How much more one chain counts an edge than the other.
 fn excess<R: Ring>(parts: &[Counted<R>], whole: &[Counted<R>], edge: &Edge<R>) -> i64
     requires { (length parts.now ≤ 65536) × (length whole.now ≤ 65536) }
-    ensures { result ≡ gap exact (chain_view exact value parts.now) (chain_view exact value whole.now) (edge_view exact value edge.now) }
+    ensures { result ≡ gap R.exact (chain_view R.exact R.value parts.now) (chain_view R.exact R.value whole.now) (edge_view R.exact R.value edge.now) }
 {
     net(parts, edge) - net(whole, edge)
 }
@@ -61,8 +61,8 @@ pub(crate) fn first_difference<'x, R: Ring>(
 ) -> Option<Difference<R>>
     requires { (length parts.now ≤ 65536) × (length whole.now ≤ 65536) }
     ensures { MatchOption result
-        (Agree exact (chain_view exact value parts.now) (chain_view exact value whole.now))
-        (λ d. FirstDifference exact (chain_view exact value parts.now) (chain_view exact value whole.now) (edge_view exact value d.edge) d.amount) }
+        (Agree R.exact (chain_view R.exact R.value parts.now) (chain_view R.exact R.value whole.now))
+        (λ d. FirstDifference R.exact (chain_view R.exact R.value parts.now) (chain_view R.exact R.value whole.now) (edge_view R.exact R.value d.edge) d.amount) }
 {
     let mut found = None;
     'search: for side in [parts, whole] {

@@ -6,32 +6,30 @@ ghost use Rattle.rings.specs.Plane.{sweep_bound};
 ghost use Rattle.chains.specs.Edges.{walk_end, corners};
 ghost use Rattle.chains.specs.Accepted.{OutlineCloses};
 ghost use Rattle.edges.specs.Answers.{Worked};
-ghost use Rattle.rows.specs.Rows.{step_of};
-ghost use Rattle.edges.specs.Views.{book_view};
-ghost use Rattle.outlines.specs.Working.{KeptWalk};
+ghost use Rattle.edges.specs.Views.{step_view, book_view};
+ghost use Rattle.edges.specs.Working.{KeptWalk};
 ghost use Rattle.book.specs.Points.{KeptRound, Tested};
 
 use edges::edge::end_of;
-use edges::rows::Book;
+use edges::rows::{Book, Step};
 use rings::fault::RingFault;
 use rings::group::Group;
 use rings::ring::Ring;
-use rows::Step;
 
 // Where some steps from 0 end, and what they sweep over.
 #[derive(Clone, Copy)]
-struct Round<R, S> {
+pub struct Round<R, S> {
     pub end: R,
     pub swept: S,
 }
 
 // Goes the steps from 0 and adds up their sweeps, modulo 2^64. The exact total is small where there are few steps.
-fn go_round<R: Ring>(book: &Book<R>, steps: &[Step]) -> Result<Round<R, R::Sweep>, RingFault>
+pub fn go_round<R: Ring>(book: &Book<R>, steps: &[Step]) -> Result<Round<R, R::Sweep>, RingFault>
     ensures { Worked result
-        (λ x. (value x.end ≡ walk_end exact (book_view exact value book.now) (map step_of steps.now) exact.zero)
-        × (total x.swept ≡ total_of exact (sweep_through exact exact.zero (corners exact (book_view exact value book.now) (map step_of steps.now) exact.zero)))
-        × Within (length steps.now * sweep_bound) (exact.list (sweep_through exact exact.zero (corners exact (book_view exact value book.now) (map step_of steps.now) exact.zero))))
-        (KeptWalk exact (book_view exact value book.now) (map step_of steps.now) exact.zero) }
+        (λ x. (R.value x.end ≡ walk_end R.exact (book_view R.exact R.value book.now) (map step_view steps.now) R.exact.zero)
+        × (R.total x.swept ≡ total_of R.exact (sweep_through R.exact R.exact.zero (corners R.exact (book_view R.exact R.value book.now) (map step_view steps.now) R.exact.zero)))
+        × Within (length steps.now * sweep_bound) (R.exact.list (sweep_through R.exact R.exact.zero (corners R.exact (book_view R.exact R.value book.now) (map step_view steps.now) R.exact.zero))))
+        (KeptWalk R.exact (book_view R.exact R.value book.now) (map step_view steps.now) R.exact.zero) }
 {
     let mut end = R::zero();
     let mut swept = R::Sweep::zero();
@@ -46,7 +44,7 @@ fn go_round<R: Ring>(book: &Book<R>, steps: &[Step]) -> Result<Round<R, R::Sweep
 // Whether tile t's outline ends at 0 with a positive area.
 pub(crate) fn outline_closes<R: Ring>(book: &Book<R>, t: usize) -> Result<bool, RingFault>
     requires { t < vec_len book.now.tiles }
-    ensures { Tested result (OutlineCloses exact (book_view exact value book.now) t) (KeptRound exact (book_view exact value book.now) t) }
+    ensures { Tested result (OutlineCloses R.exact (book_view R.exact R.value book.now) t) (KeptRound R.exact (book_view R.exact R.value book.now) t) }
 {
     let round = go_round(book, book.tiles[t].outline.as_slice())?;
     let closes = round.end == R::zero();

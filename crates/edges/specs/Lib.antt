@@ -1,3 +1,5 @@
+pub mod Limits
 pub mod Views
 pub mod Working
 pub mod Answers
+pub mod Faults

@@ -3,21 +3,19 @@ ghost use Rattle.std.specs.Prelude.{◌≡◌, if◌then◌else◌};
 ghost use Rattle.rings.specs.Answers.{Exactly};
 ghost use Rattle.chains.specs.Edges.{along, canonical, step_count};
 ghost use Rattle.chains.specs.Placements.{image, heading, placed_entry};
-ghost use Rattle.rows.specs.Rows.{step_of};
-ghost use Rattle.edges.specs.Views.{edge_view, counted_view, placement_view, book_view};
+ghost use Rattle.edges.specs.Views.{edge_view, counted_view, step_view, placement_view, book_view};
 ghost use Rattle.edges.specs.Working.{KeptAlong, KeptImage, KeptCanonical, as_it_stands};
 ghost use Rattle.edges.specs.Answers.{Worked};
 
 use crate::lookups::{is_arrowed, length_of};
-use crate::rows::{Book, Counted, Edge, Placed, Stepped};
+use crate::rows::{Book, Counted, Edge, Placement, Step, Stepped};
 use crate::turns::{difference_of_turns, half_turn, opposed, reduced, sum_of_turns};
 use rings::fault::RingFault;
 use rings::ring::Ring;
-use rows::Step;
 
 // Where label e in direction j leads to from q.
 pub fn end_of<R: Ring>(book: &Book<R>, e: usize, j: u32, q: R) -> Result<R, RingFault>
-    ensures { Worked result (λ z. value z ≡ along exact (book_view exact value book.now) e j (value q)) (KeptAlong exact (book_view exact value book.now) e j (value q)) }
+    ensures { Worked result (λ z. R.value z ≡ along R.exact (book_view R.exact R.value book.now) e j (R.value q)) (KeptAlong R.exact (book_view R.exact R.value book.now) e j (R.value q)) }
 {
     let along = length_of(book, e).turn(j)?;
     q.add(along)
@@ -26,8 +24,8 @@ pub fn end_of<R: Ring>(book: &Book<R>, e: usize, j: u32, q: R) -> Result<R, Ring
 // A step from q: what it counts and where it ends.
 pub fn step_from<R: Ring>(book: &Book<R>, s: Step, q: R) -> Result<Stepped<R>, RingFault>
     ensures { Worked result
-        (λ x. (counted_view exact value x.counted ≡ step_count exact (book_view exact value book.now) (step_of s) (value q)) × (value x.end ≡ along exact (book_view exact value book.now) s.label s.direction (value q)))
-        (KeptAlong exact (book_view exact value book.now) s.label s.direction (value q)) }
+        (λ x. (counted_view R.exact R.value x.counted ≡ step_count R.exact (book_view R.exact R.value book.now) (step_view s) (R.value q)) × (R.value x.end ≡ along R.exact (book_view R.exact R.value book.now) s.label s.direction (R.value q)))
+        (KeptAlong R.exact (book_view R.exact R.value book.now) s.label s.direction (R.value q)) }
 {
     let end = end_of(book, s.label, s.direction, q)?;
     if s.forward {
@@ -55,7 +53,7 @@ pub fn step_from<R: Ring>(book: &Book<R>, s: Step, q: R) -> Result<Stepped<R>, R
 
 // Whether an edge is written as it stands: it is arrowed, or of a direction below n/2.
 fn stands<R: Ring>(book: &Book<R>, x: &Edge<R>) -> bool
-    ensures { result ≡ as_it_stands exact (book_view exact value book.now) (edge_view exact value x.now) }
+    ensures { result ≡ as_it_stands R.exact (book_view R.exact R.value book.now) (edge_view R.exact R.value x.now) }
 {
     if is_arrowed(book, x.label) {
         return true;
@@ -66,8 +64,8 @@ fn stands<R: Ring>(book: &Book<R>, x: &Edge<R>) -> bool
 // The canonical form: a plain edge of direction n/2 or more is written from its other end, with the count's sign turned.
 pub fn canonical_form<R: Ring>(book: &Book<R>, x: &Counted<R>) -> Result<Counted<R>, RingFault>
     ensures { Worked result
-        (λ y. counted_view exact value y ≡ canonical exact (book_view exact value book.now) (counted_view exact value x.now))
-        (KeptCanonical exact (book_view exact value book.now) (edge_view exact value x.now.edge)) }
+        (λ y. counted_view R.exact R.value y ≡ canonical R.exact (book_view R.exact R.value book.now) (counted_view R.exact R.value x.now))
+        (KeptCanonical R.exact (book_view R.exact R.value book.now) (edge_view R.exact R.value x.now.edge)) }
 {
     let edge = x.edge;
     if stands(book, &edge) {
@@ -92,14 +90,14 @@ pub fn canonical_form<R: Ring>(book: &Book<R>, x: &Counted<R>) -> Result<Counted
 
 // A point as a mirror mark has it: its conjugate, or itself.
 fn mirrored_point<R: Ring>(mirrored: bool, z: R) -> Result<R, RingFault>
-    ensures { Exactly exact value result (if mirrored then exact.conj (value z) else value z) }
+    ensures { Exactly R.exact R.value result (if mirrored then R.exact.conj (R.value z) else R.value z) }
 {
     if mirrored { z.conj() } else { Ok(z) }
 }
 
 // Where a placement brings a point.
-pub fn image_of<R: Ring>(p: &Placed<R>, z: R) -> Result<R, RingFault>
-    ensures { Worked result (λ y. value y ≡ image exact (placement_view exact value p.now) (value z)) (KeptImage exact (placement_view exact value p.now) (value z)) }
+pub fn image_of<R: Ring>(p: &Placement<R>, z: R) -> Result<R, RingFault>
+    ensures { Worked result (λ y. R.value y ≡ image R.exact (placement_view R.exact R.value p.now) (R.value z)) (KeptImage R.exact (placement_view R.exact R.value p.now) (R.value z)) }
 {
     let faced = mirrored_point(p.mirrored, z)?;
     let turned = faced.turn(p.turn)?;
@@ -107,8 +105,8 @@ pub fn image_of<R: Ring>(p: &Placed<R>, z: R) -> Result<R, RingFault>
 }
 
 // The direction that a placement turns j into.
-pub fn heading_of<R: Ring>(p: &Placed<R>, j: u32) -> u32
-    ensures { result ≡ heading exact (placement_view exact value p.now) j }
+pub fn heading_of<R: Ring>(p: &Placement<R>, j: u32) -> u32
+    ensures { result ≡ heading R.exact (placement_view R.exact R.value p.now) j }
 {
     if p.mirrored {
         difference_of_turns::<R>(p.turn, j)
@@ -118,10 +116,10 @@ pub fn heading_of<R: Ring>(p: &Placed<R>, j: u32) -> u32
 }
 
 // Where a placement brings a counted edge. A mirror turns the sign of the count.
-pub fn placed_edge<R: Ring>(p: &Placed<R>, x: &Counted<R>) -> Result<Counted<R>, RingFault>
+pub fn placed_edge<R: Ring>(p: &Placement<R>, x: &Counted<R>) -> Result<Counted<R>, RingFault>
     ensures { Worked result
-        (λ y. counted_view exact value y ≡ placed_entry exact (placement_view exact value p.now) (counted_view exact value x.now))
-        (KeptImage exact (placement_view exact value p.now) (value x.now.edge.start)) }
+        (λ y. counted_view R.exact R.value y ≡ placed_entry R.exact (placement_view R.exact R.value p.now) (counted_view R.exact R.value x.now))
+        (KeptImage R.exact (placement_view R.exact R.value p.now) (R.value x.now.edge.start)) }
 {
     let start = image_of(p, x.edge.start)?;
     let edge = Edge {

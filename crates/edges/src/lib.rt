@@ -1,8 +1,12 @@
-// The rows of a rule book over a ring, and the formulas over single edges: where an edge ends, what a step counts, the
-// canonical form, and where a placement brings an edge. Lists of edges, the check of a book and placements go by these.
+// The rows of a rule book over a ring, and the formulas over them: where edges end, what steps count, where a placement brings
+// an edge, and what inflation makes of it. The check of a book, placements and readings all go by these.
 #![tactic(auto)]
 
 pub mod edge;
+pub mod fault;
+pub mod inflating;
 pub mod lookups;
+pub mod placing;
 pub mod rows;
-mod turns;
+pub mod turns;
+pub mod walks;

@@ -7,7 +7,7 @@ use crate::rows::Book;
 use rings::ring::Ring;
 
 pub fn length_of<R: Ring>(book: &Book<R>, e: usize) -> R
-    ensures { value result ≡ (label_at (book_view exact value book.now) e).length }
+    ensures { R.value result ≡ (label_at (book_view R.exact R.value book.now) e).length }
 {
     if e < book.labels.len() {
         book.labels[e].length
@@ -17,7 +17,7 @@ pub fn length_of<R: Ring>(book: &Book<R>, e: usize) -> R
 }
 
 pub fn is_arrowed<R: Ring>(book: &Book<R>, e: usize) -> bool
-    ensures { result ≡ (label_at (book_view exact value book.now) e).arrowed }
+    ensures { result ≡ (label_at (book_view R.exact R.value book.now) e).arrowed }
 {
     if e < book.labels.len() {
         book.labels[e].arrowed

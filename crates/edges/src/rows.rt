@@ -1,8 +1,6 @@
 // Rows over a ring. Labels and tiles go by their numbers, directions and turns by n-ths of a circle.
 ghost use Rattle.std.specs.Prelude.{◌≤◌, vec_len};
-ghost use Rattle.rows.specs.Limits.{most_parts, most_steps, most_children};
-
-use rows::{Part, Step};
+ghost use Rattle.edges.specs.Limits.{most_parts, most_steps, most_children};
 
 // A label in a direction from a start.
 #[derive(Clone, Copy)]
@@ -26,9 +24,24 @@ pub struct Stepped<R> {
     pub end: R,
 }
 
+// A part of a subdivision.
+#[derive(Clone, Copy)]
+pub struct Part {
+    pub label: usize,
+    pub forward: bool,
+}
+
+// A step of an outline.
+#[derive(Clone, Copy)]
+pub struct Step {
+    pub label: usize,
+    pub forward: bool,
+    pub direction: u32,
+}
+
 // A tile by its number, mirrored first where the mark says so, then turned, then brought to a place.
 #[derive(Clone, Copy)]
-pub struct Placed<R> {
+pub struct Placement<R> {
     pub tile: usize,
     pub turn: u32,
     pub mirrored: bool,
@@ -48,7 +61,7 @@ pub struct Label<R> {
 #[derive(Drop)]
 pub struct Tile<R> {
     pub outline: Vec<Step>,
-    pub children: Vec<Placed<R>>,
+    pub children: Vec<Placement<R>>,
     ghost few: { vec_len outline ≤ most_steps },
     ghost family: { vec_len children ≤ most_children },
 }

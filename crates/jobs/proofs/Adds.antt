@@ -3,15 +3,15 @@ use Rattle.std.proofs.Common.{◌≡◌, ℕ, ◌<◌, ◌≤◌, Bool, List, []
 use Rattle.std.specs.List.{flat_map}
 use Rattle.exact.specs.JobNumbers.{TileNumbers, PlacedNumbers, Part, Step}
 use Rattle.lines.specs.Letters.{Letter, letter-L, letter-S, letter-T, letter-C, letter-P}
-use Rattle.rows.specs.declared.Label.{Label}
+use Rattle.jobs.specs.declared.rows.Label.{Label}
 use Rattle.jobs.specs.declared.draft.Misfit.{Misfit}
 use Rattle.jobs.specs.declared.draft.Misfit.TheVariants.{Place as Misplaced, Numbers, Memory}
 use Rattle.jobs.specs.Drafts.{Added, Unfit}
-use Rattle.jobs.specs.Fronts.{Front, Place, Takes, kinds, opened, closed}
+use Rattle.jobs.specs.Fronts.{Front, Head, Place, Takes, kinds, opened, closed}
 use Rattle.jobs.specs.Ranges.{Element, PlacedFits, SubdivisionFits, OutlineFits}
 use Rattle.jobs.specs.Spelled.{label_numbers, part_numbers, step_numbers, placed_numbers}
 use Rattle.jobs.proofs.Series.{placed_unique}
-use Rattle.rows.specs.Rows.{Head, head_of}
+use Rattle.jobs.specs.Rows.{head_of}
 
 pub unfit_label : (e : Misfit) (f g : Front) (zs : List ℤ) → Place f letter-L → Unfit ((b : Bool) (ys : List ℤ) → Element f.rank ys → zs ≡ label_numbers b ys → ⊥) e → Added f letter-L zs (Err e) g
 unfit_label Misplaced f g zs p h = absurd h

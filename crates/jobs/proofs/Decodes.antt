@@ -8,12 +8,12 @@ use Rattle.std.proofs.lemmas.List.{length-map, get_or-map, take_rest}
 use Rattle.std.proofs.lemmas.Int.{ints}
 use Rattle.std.proofs.lemmas.Bool.{ltb-false, true≢false, false≢true}
 use Rattle.exact.specs.JobNumbers.{PlacedNumbers, Part, Step}
-use Rattle.rows.specs.declared.Label.{Label}
+use Rattle.jobs.specs.declared.rows.Label.{Label}
 use Rattle.jobs.specs.declared.draft.Misfit.{Misfit}
 use Rattle.jobs.specs.declared.draft.Misfit.TheVariants.{Place as Misplaced, Numbers, Memory}
 use Rattle.jobs.specs.Drafts.{Unfit}
 use Rattle.jobs.specs.Ranges.{Coefficient, Element, Sensed, PlacedFits}
-use Rattle.jobs.specs.Spelled.{label_numbers, part_numbers, step_numbers, placed_numbers}
+use Rattle.jobs.specs.Spelled.{mark, label_numbers, part_numbers, step_numbers, placed_numbers}
 
 pub one_is : (ns : List ℤ) (z : ℤ) → length ns ≡ 1 → get_or ns 0 (pos 0) ≡ z → ns ≡ z ∷ []
 one_is (x ∷ []) z e h = ap (λ y. y ∷ []) h

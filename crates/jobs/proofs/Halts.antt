@@ -15,14 +15,14 @@ use Rattle.faults.specs.declared.TextFault.{TextFault}
 use Rattle.faults.specs.declared.TextFault.TheVariants.{Misspelt, Misplaced, Unfit, Overlong, Memory}
 use Rattle.jobs.specs.declared.job.Job.{Job}
 use Rattle.jobs.specs.declared.draft.Draft.{Draft}
-use Rattle.rows.specs.declared.Tile.{Tile}
-use Rattle.rows.specs.Rows.{head_of, tile_of}
+use Rattle.jobs.specs.declared.rows.Tile.{Tile}
+use Rattle.jobs.specs.Rows.{head_of, tile_of}
 use Rattle.jobs.specs.Drafts.{Added, front}
 use Rattle.faults.specs.Told.{told}
 use Rattle.jobs.specs.Faults.{Refuses}
 use Rattle.jobs.specs.Fronts.{Front, nothing, Place, Complete, Takes, Steps, Leads, job_of}
 use Rattle.jobs.specs.Jobs.{numbers}
-use Rattle.rows.specs.Limits.{most_bytes, most_labels}
+use Rattle.jobs.specs.Limits.{most_bytes, most_labels}
 use Rattle.jobs.specs.Ranges.{InRange, Shaped, ChildrenNamed}
 use Rattle.jobs.specs.Refusals.{At, Why, misspelt, misplaced, early, unfit, late, Refused, overlong, stopped, first_beyond}
 use Rattle.jobs.specs.Spelled.{label_line, subdivision_line, seed_line, tile_lines, lines_of, spelled}
@@ -111,7 +111,7 @@ pub record Read (t : List ℕ) (f : Front) : Type 0 where
   pub ends : Shaped (job_of f)
   pub same : t ≡ spelled (job_of f)
   pub few : length f.heads ≤ most_labels
-  pub paired : length f.subdivisions ≡ length f.heads
+  pub paired : length f.subdivisions ≤ length f.heads
   pub room : 3 + length f.heads + length f.heads + length (flat_map tile_lines f.tiles) ≤ most_bytes
   pub late_at : (k : ℕ) → first_beyond (length f.tiles) (3 + length f.heads + length f.heads) (flat_map tile_lines f.tiles) ≡ Some k → Refused t 3 k
   pub all_named : first_beyond (length f.tiles) (3 + length f.heads + length f.heads) (flat_map tile_lines f.tiles) ≡ None → InRange (job_of f)

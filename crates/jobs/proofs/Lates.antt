@@ -1,8 +1,8 @@
 -- Children that name a tile beyond the last.
 use Rattle.std.proofs.Common.{◌≡◌, ℕ, suc, ◌+◌, ◌<◌, ◌≤◌, Bool, true, false, cond, leb, List, [], ◌∷◌, ◌++◌, map, length, get_or, drop, ℤ, pos, Some, None, vec_items, Option, sym, refl, ap, ◌∙◌, subst, append_assoc, append-nil, arith}
-use Rattle.rows.specs.declared.PlacedRow.{PlacedRow}
-use Rattle.rows.specs.declared.Tile.{Tile}
-use Rattle.rows.specs.Rows.{placed_of, tile_of}
+use Rattle.jobs.specs.declared.rows.Placed.{Placed}
+use Rattle.jobs.specs.declared.rows.Tile.{Tile}
+use Rattle.jobs.specs.Rows.{placed_of, tile_of}
 use Rattle.std.specs.List.{flat_map, AllByRecursion as All}
 use Rattle.std.proofs.lemmas.List.{length-append, length-map, drop_more}
 use Rattle.std.proofs.lemmas.Bool.Decides.{nat_tests}
@@ -82,13 +82,13 @@ tiles_named m k (t ∷ ts) e =
     (children_named m (k + 1) t.children h.0, tiles_named m (k + length (tile_lines t)) ts h.1)
 
 -- a loop over the children, and one over the tiles
-pub child_step : (m k i : ℕ) (cs : List PlacedRow) (x : PlacedRow) → i < length cs → x ≡ get_or cs i x → first_beyond m k (map child_line (map placed_of (drop i cs))) ≡ cond (leb m x.tile) (Some k) (first_beyond m (k + 1) (map child_line (map placed_of (drop (i + 1) cs))))
+pub child_step : (m k i : ℕ) (cs : List Placed) (x : Placed) → i < length cs → x ≡ get_or cs i x → first_beyond m k (map child_line (map placed_of (drop i cs))) ≡ cond (leb m x.tile) (Some k) (first_beyond m (k + 1) (map child_line (map placed_of (drop (i + 1) cs))))
 child_step m k i cs x l e = ap (λ t. first_beyond m k (map child_line (map placed_of t))) (drop_more cs i x l ∙ ap (λ y. y ∷ drop (i + 1) cs) (sym e))
 
-pub child_late : (m k i : ℕ) (cs : List PlacedRow) (x : PlacedRow) → i < length cs → x ≡ get_or cs i x → m ≤ x.tile → first_beyond m k (map child_line (map placed_of (drop i cs))) ≡ Some k
+pub child_late : (m k i : ℕ) (cs : List Placed) (x : Placed) → i < length cs → x ≡ get_or cs i x → m ≤ x.tile → first_beyond m k (map child_line (map placed_of (drop i cs))) ≡ Some k
 child_late m k i cs x l e h = let b : leb m x.tile ≡ true = grind (arith, nat_tests) in child_step m k i cs x l e ∙ ap (λ b. cond b (Some k) (first_beyond m (k + 1) (map child_line (map placed_of (drop (i + 1) cs))))) b
 
-pub child_fine : (m k i : ℕ) (cs : List PlacedRow) (x : PlacedRow) → i < length cs → x ≡ get_or cs i x → x.tile < m → first_beyond m k (map child_line (map placed_of (drop i cs))) ≡ first_beyond m (k + 1) (map child_line (map placed_of (drop (i + 1) cs)))
+pub child_fine : (m k i : ℕ) (cs : List Placed) (x : Placed) → i < length cs → x ≡ get_or cs i x → x.tile < m → first_beyond m k (map child_line (map placed_of (drop i cs))) ≡ first_beyond m (k + 1) (map child_line (map placed_of (drop (i + 1) cs)))
 child_fine m k i cs x l e h = let b : leb m x.tile ≡ false = grind (arith, nat_tests) in child_step m k i cs x l e ∙ ap (λ b. cond b (Some k) (first_beyond m (k + 1) (map child_line (map placed_of (drop (i + 1) cs))))) b
 
 pub at_line : (m a b : ℕ) (ls : List Line) → a ≡ b → first_beyond m a ls ≡ first_beyond m b ls

@@ -6,4 +6,8 @@ pub mod Runs
 pub mod Lates
 pub mod Verdicts
 pub mod Widths
+pub mod Picking
 pub mod Halts
+pub mod Writes
+pub mod Texts
+pub mod Wholes

@@ -5,11 +5,10 @@ use Rattle.std.proofs.lemmas.List.{length_push, length-append, length-map}
 use Rattle.exact.specs.JobNumbers.{JobNumbers, LabelNumbers, TileNumbers, PlacedNumbers, Part, Step}
 use Rattle.lines.specs.Letters.{Letter, letter_R, letter-I, letter-L, letter-S, letter-T, letter-C, letter-D, letter-P}
 use Rattle.lines.specs.Lines.{Line, line}
-use Rattle.rows.specs.Limits.{Ring, most_labels, most_tiles, most_children, most_depth, most_seeds}
+use Rattle.jobs.specs.Limits.{Ring, most_labels, most_tiles, most_children, most_depth, most_seeds}
 use Rattle.jobs.specs.Ranges.{Element, PlacedFits, SeedFits, SubdivisionFits, OutlineFits, TileFits, LabelFits, Shaped, kinds_of}
 use Rattle.jobs.specs.Spelled.{label_numbers, part_numbers, step_numbers, placed_numbers, label_line, subdivision_line, outline_line, child_line, seed_line, tile_lines, lines_of}
-use Rattle.rows.specs.Rows.{Head}
-use Rattle.jobs.specs.Fronts.{Front, nothing, Place, Complete, Takes, Steps, Leads, labelled, job_of, with_ring, with_factor, with_label, with_subdivision, with_tile, with_child, with_depth, with_seed}
+use Rattle.jobs.specs.Fronts.{Head, Front, nothing, Place, Complete, Takes, Steps, Leads, labelled, job_of, with_ring, with_factor, with_label, with_subdivision, with_tile, with_child, with_depth, with_seed}
 use Rattle.jobs.proofs.Adds.{opened_some}
 use Rattle.jobs.proofs.Series.{mark_inj, parts_unique, steps_unique, placed_unique}
 use Rattle.jobs.proofs.Shapes.{whole_front, HeadFits, head_line, tile, ring_line, factor_line, depth_line, kinds}

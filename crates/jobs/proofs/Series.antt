@@ -4,8 +4,7 @@ use Rattle.std.specs.List.{flat_map, AllByRecursion as All}
 use Rattle.std.proofs.ByRecursion.{All-push}
 use Rattle.std.proofs.lemmas.List.{take_rest}
 use Rattle.exact.specs.JobNumbers.{Part, Step, PlacedNumbers}
-use Rattle.lines.specs.Spelling.{mark}
-use Rattle.jobs.specs.Spelled.{part_numbers, step_numbers, placed_numbers}
+use Rattle.jobs.specs.Spelled.{mark, part_numbers, step_numbers, placed_numbers}
 
 -- xs are read from s, and rest is left
 pub record Upto {X A : Type 0} (enc : X → List A) (P : X → Type 0) (s : List A) (xs : List X) (rest : List A) : Type 0 where

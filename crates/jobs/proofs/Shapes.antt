@@ -7,11 +7,10 @@ use Rattle.std.proofs.lemmas.Bool.{false≢true}
 use Rattle.exact.specs.JobNumbers.{JobNumbers, LabelNumbers, TileNumbers, PlacedNumbers, Part, Step}
 use Rattle.lines.specs.Letters.{Letter, letter_R, letter-I, letter-L, letter-S, letter-T, letter-C, letter-D, letter-P}
 use Rattle.lines.specs.Lines.{Line, line}
-use Rattle.rows.specs.Limits.{Ring, most_labels, most_tiles, most_children, most_depth, most_seeds}
+use Rattle.jobs.specs.Limits.{Ring, most_labels, most_tiles, most_children, most_depth, most_seeds}
 use Rattle.jobs.specs.Ranges.{Element, PlacedFits, SeedFits, SubdivisionFits, OutlineFits, TileFits, LabelFits, Shaped, kinds_of}
 use Rattle.jobs.specs.Spelled.{label_numbers, part_numbers, step_numbers, placed_numbers, label_line, subdivision_line, outline_line, child_line, seed_line, tile_lines, lines_of}
-use Rattle.rows.specs.Rows.{Head}
-use Rattle.jobs.specs.Fronts.{Front, nothing, Place, Complete, Takes, Leads, opened, with_tile, labelled, job_of}
+use Rattle.jobs.specs.Fronts.{Head, Front, nothing, Place, Complete, Takes, Leads, opened, with_tile, labelled, job_of}
 use Rattle.jobs.proofs.Adds.{opened_some}
 
 abbrev pub kinds : List Head → List Bool
@@ -275,7 +274,7 @@ pub record Ends (f : Front) (ls : List Line) : Type 0 where
   pub shaped : Shaped (job_of f)
   pub lines : ls ≡ lines_of (job_of f)
   pub labels : length f.heads ≡ length (job_of f).labels
-  pub paired : length f.subdivisions ≡ length f.heads
+  pub paired : length f.subdivisions ≤ length f.heads
 
 end_shape : (s : Shape) → Fine s → Complete (shape_front s) → Ends (shape_front s) (shape_lines s)
 end_shape start x k = absurd (omega arith)
@@ -302,7 +301,7 @@ end_shape (ended n d fs hs pss ts depth ps) (b, v, o) k =
       };
       lines = ap (λ t. ring_line n ∷ factor_line fs ∷ t) (ap₂ (λ x y. x ++ (y ++ (flat_map tile_lines ts ++ depth_line depth ∷ map seed_line ps))) (sym (labelled_lines hs pss v.each)) (sym (labelled_subdivisions hs pss v.each)));
       labels = sym n';
-      paired = v.each;
+      paired = b.paired;
     }
 
 pub complete_ends : (ls : List Line) (f : Front) → Leads nothing ls f → Complete f → Ends f ls

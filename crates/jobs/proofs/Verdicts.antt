@@ -6,7 +6,7 @@ use Rattle.exact.specs.JobNumbers.{JobNumbers}
 use Rattle.lines.specs.Letters.{Letter}
 use Rattle.lines.specs.Lines.{Line, line, text, spelt, WellSpelt, FirstLine}
 use Rattle.lines.proofs.Fronted.{line_unique, first_of}
-use Rattle.rows.specs.Limits.{most_bytes}
+use Rattle.jobs.specs.Limits.{most_bytes}
 use Rattle.jobs.specs.Ranges.{Shaped, InRange}
 use Rattle.jobs.specs.Spelled.{lines_of, spelled}
 use Rattle.jobs.specs.Fronts.{Front, nothing, Place, Complete, Takes, Leads, job_of}

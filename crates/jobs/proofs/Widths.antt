@@ -7,10 +7,10 @@ use Rattle.std.proofs.lemmas.List.{length-append, length-map}
 use Rattle.exact.specs.JobNumbers.{JobNumbers, LabelNumbers, TileNumbers, PlacedNumbers, Part, Step}
 use Rattle.lines.specs.Letters.{letter_R, letter-I, letter-D}
 use Rattle.lines.specs.Lines.{Line, line, text, spelt, WellSpelt}
-use Rattle.lines.specs.Spelling.{Short, mark, word}
-use Rattle.rows.specs.Limits.{Ring, most_bytes}
+use Rattle.lines.specs.Spelling.{Short, word}
+use Rattle.jobs.specs.Limits.{Ring, most_bytes}
 use Rattle.jobs.specs.Ranges.{Coefficient, Element, Sensed, PartFits, StepFits, PlacedFits, SeedFits, SubdivisionFits, OutlineFits, TileFits, LabelFits, ChildrenNamed, Shaped, InRange, kinds_of}
-use Rattle.jobs.specs.Spelled.{part_numbers, step_numbers, placed_numbers, label_line, subdivision_line, outline_line, child_line, seed_line, tile_lines, lines_of, spelled}
+use Rattle.jobs.specs.Spelled.{mark, part_numbers, step_numbers, placed_numbers, label_line, subdivision_line, outline_line, child_line, seed_line, tile_lines, lines_of, spelled}
 use Rattle.jobs.proofs.Series.{length_parts, length_steps}
 
 -- at most two digits

@@ -5,7 +5,7 @@ use Rattle.jobs.specs.declared.draft.Draft.{Draft}
 use Rattle.jobs.specs.declared.draft.Misfit.{Misfit}
 use Rattle.jobs.specs.declared.draft.Misfit.TheVariants.{Place as Misplaced, Numbers, Memory}
 use Rattle.jobs.specs.Fronts.{Front, Place, Takes}
-use Rattle.rows.specs.Rows.{head_of, part_of, step_of, placed_of, tile_of}
+use Rattle.jobs.specs.Rows.{head_of, part_of, step_of, placed_of, tile_of}
 
 abbrev pub front : Draft → Front
 front d = record {

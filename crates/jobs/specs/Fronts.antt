@@ -5,10 +5,14 @@ use Rattle.std.specs.List.{flat_map}
 use Rattle.exact.specs.JobNumbers.{JobNumbers, LabelNumbers, TileNumbers, PlacedNumbers, Part, Step}
 use Rattle.lines.specs.Letters.{Letter, letter_R, letter-I, letter-L, letter-S, letter-T, letter-C, letter-D, letter-P}
 use Rattle.lines.specs.Lines.{Line}
-use Rattle.rows.specs.Limits.{Ring, most_labels, most_tiles, most_children, most_depth, most_seeds}
-use Rattle.rows.specs.Rows.{Head}
+use Rattle.jobs.specs.Limits.{Ring, most_labels, most_tiles, most_children, most_depth, most_seeds}
 use Rattle.jobs.specs.Ranges.{Element, PlacedFits, SeedFits, SubdivisionFits, OutlineFits}
 use Rattle.jobs.specs.Spelled.{label_numbers, part_numbers, step_numbers, placed_numbers}
+
+-- what an L line says
+pub record Head : Type 0 where
+  pub arrowed : Bool
+  pub length : List ℤ
 
 -- order and rank are 0 before the R line. The tile whose children are being read stands in outline and children, and
 -- joins the tiles at the next T line or at the D line

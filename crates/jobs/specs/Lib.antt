@@ -1,9 +1,13 @@
+pub mod Limits
 pub mod Ranges
 pub mod Spelled
 pub mod Fronts
 pub mod Refusals
+pub mod Rows
 pub mod Drafts
 pub mod Faults
 pub mod Jobs
 pub mod Turns
 pub mod OneText
+pub mod Puts
+pub mod RowTexts

@@ -1,7 +1,7 @@
 -- One text to a job, one job to a text.
 use Rattle.std.specs.Prelude.{◌≡◌, ℕ, ◌≤◌, List, length}
 use Rattle.exact.specs.JobNumbers.{JobNumbers}
-use Rattle.rows.specs.Limits.{most_bytes}
+use Rattle.jobs.specs.Limits.{most_bytes}
 use Rattle.jobs.specs.Ranges.{InRange}
 use Rattle.jobs.specs.Refusals.{Refused}
 use Rattle.jobs.specs.Spelled.{spelled}

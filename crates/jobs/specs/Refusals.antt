@@ -3,7 +3,7 @@ use Rattle.std.specs.Prelude.{◌≡◌, ℕ, suc, ◌+◌, ◌<◌, ◌≤◌, 
 use Rattle.std.specs.List.{AllByRecursion as All}
 use Rattle.lines.specs.Letters.{Letter, letter_R, letter-I, letter-L, letter-S, letter-T, letter-C, letter-D, letter-P}
 use Rattle.lines.specs.Lines.{Line, text, WellSpelt, FirstLine}
-use Rattle.rows.specs.Limits.{most_bytes}
+use Rattle.jobs.specs.Limits.{most_bytes}
 use Rattle.jobs.specs.Fronts.{Front, nothing, Place, Complete, Takes, Leads}
 
 -- the first lines of t are well spelt, stand where they may and say f; rest is what follows them

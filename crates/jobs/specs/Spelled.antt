@@ -1,10 +1,14 @@
 -- The lines of a job, and its text.
-use Rattle.std.specs.Prelude.{ℕ, Bool, List, [], ◌∷◌, ◌++◌, map, ℤ, pos}
+use Rattle.std.specs.Prelude.{ℕ, Bool, true, false, List, [], ◌∷◌, ◌++◌, map, ℤ, pos}
 use Rattle.std.specs.List.{flat_map}
 use Rattle.exact.specs.JobNumbers.{JobNumbers, LabelNumbers, TileNumbers, PlacedNumbers, Part, Step}
 use Rattle.lines.specs.Letters.{letter_R, letter-I, letter-L, letter-S, letter-T, letter-C, letter-D, letter-P}
 use Rattle.lines.specs.Lines.{Line, line, text}
-use Rattle.lines.specs.Spelling.{mark}
+
+-- a mark: 1 for true, 0 for false
+abbrev pub mark : Bool → ℤ
+mark true = pos 1
+mark false = pos 0
 
 abbrev pub label_numbers : Bool → List ℤ → List ℤ
 label_numbers arrowed length = mark arrowed ∷ length

@@ -7,9 +7,9 @@ ghost use Rattle.jobs.specs.Fronts.{Place, closed};
 
 use crate::decoding;
 use crate::draft::{Draft, Misfit};
+use crate::limits::{MOST_CHILDREN, MOST_LABELS, MOST_SEEDS, MOST_TILES};
+use crate::rows::Tile;
 use lines::Kind;
-use rows::Tile;
-use rows::limits::{MOST_CHILDREN, MOST_LABELS, MOST_SEEDS, MOST_TILES};
 use std::alloc::Global;
 use std::mem;
 

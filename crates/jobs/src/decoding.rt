@@ -3,15 +3,14 @@ ghost use Rattle.std.specs.Prelude.{◌≡◌, ℕ, ◌<◌, ◌≤◌, Bool, Li
 ghost use Rattle.exact.specs.JobNumbers.{PlacedNumbers, Part as PartNumbers, Step as StepNumbers};
 ghost use Rattle.std.specs.List.{flat_map};
 ghost use Rattle.jobs.specs.Drafts.{Unfit};
-ghost use Rattle.rows.specs.Limits.{Ring, most_depth};
+ghost use Rattle.jobs.specs.Limits.{Ring, most_depth};
 ghost use Rattle.jobs.specs.Ranges.{Element, Sensed, PartFits, StepFits, PlacedFits, SubdivisionFits, OutlineFits};
-ghost use Rattle.rows.specs.Rows.{part_of, step_of, placed_of};
-ghost use Rattle.lines.specs.Spelling.{mark};
-ghost use Rattle.jobs.specs.Spelled.{label_numbers, part_numbers, step_numbers, placed_numbers};
+ghost use Rattle.jobs.specs.Rows.{part_of, step_of, placed_of};
+ghost use Rattle.jobs.specs.Spelled.{mark, label_numbers, part_numbers, step_numbers, placed_numbers};
 
 use crate::draft::Misfit;
-use rows::limits::{LEAST_STEPS, MOST_DEPTH, MOST_PARTS, MOST_SIZE, MOST_STEPS};
-use rows::{Label, Part, PlacedRow, Step};
+use crate::limits::{LEAST_STEPS, MOST_DEPTH, MOST_PARTS, MOST_SIZE, MOST_STEPS};
+use crate::rows::{Label, Part, Placed, Step};
 use std::alloc::Global;
 
 // The ring's order and rank.
@@ -188,7 +187,7 @@ pub(crate) fn steps(
 }
 
 // A C or a P line: tile, turn, mark for mirrored, then the place.
-pub(crate) fn placed(heap: Global, ns: &[i64], order: u32, rank: usize) -> Result<PlacedRow, Misfit>
+pub(crate) fn placed(heap: Global, ns: &[i64], order: u32, rank: usize) -> Result<Placed, Misfit>
     ensures { MatchResult result (λ p. PlacedFits order rank (placed_of p) × (ns.now ≡ placed_numbers (placed_of p))) (Unfit ((p : PlacedNumbers) → PlacedFits order rank p → ns.now ≢ placed_numbers p)) }
 {
     if ns.len() < 3 {
@@ -204,7 +203,7 @@ pub(crate) fn placed(heap: Global, ns: &[i64], order: u32, rank: usize) -> Resul
         return Err(Misfit::Numbers);
     };
     let place = element(heap, &ns[3..], rank)?;
-    Ok(PlacedRow {
+    Ok(Placed {
         tile,
         turn,
         mirrored,

@@ -2,7 +2,7 @@
 ghost use Rattle.std.specs.Prelude.{◌≡◌};
 ghost use Rattle.jobs.specs.declared.draft.Misfit.TheVariants.{Memory};
 
-use rows::{Label, Part, PlacedRow, Step, Tile};
+use crate::rows::{Label, Part, Placed, Step, Tile};
 use std::alloc::{AllocError, AllocFailed};
 
 // The order and the rank are 0 before the R line. The tile whose children are being read stands in outline and
@@ -16,9 +16,9 @@ pub struct Draft {
     pub subdivisions: Vec<Vec<Part>>,
     pub tiles: Vec<Tile>,
     pub outline: Vec<Step>,
-    pub children: Vec<PlacedRow>,
+    pub children: Vec<Placed>,
     pub depth: Option<u32>,
-    pub seeds: Vec<PlacedRow>,
+    pub seeds: Vec<Placed>,
 }
 
 // Why a line is not added: its letter has no place, its numbers do not fit, or there was no memory for them.

@@ -2,13 +2,13 @@
 ghost use Rattle.std.specs.Prelude.{◌≡◌, ◌+◌, ◌^◌, ◌<◌, map, length};
 ghost use Rattle.std.specs.List.{flat_map};
 ghost use Rattle.jobs.specs.Refusals.{first_beyond};
-ghost use Rattle.rows.specs.Rows.{placed_of, tile_of};
+ghost use Rattle.jobs.specs.Rows.{placed_of, tile_of};
 ghost use Rattle.jobs.specs.Spelled.{child_line, tile_lines};
 
-use rows::{PlacedRow, Tile};
+use crate::rows::{Placed, Tile};
 
 // The line of the first such child, where the lines of the children are numbered from first.
-fn beyond_child(children: &[PlacedRow], tiles: usize, first: usize) -> Option<usize>
+fn beyond_child(children: &[Placed], tiles: usize, first: usize) -> Option<usize>
     requires { first + length children.now < 2 ^ 64 }
     ensures { result ≡ first_beyond tiles first (map child_line (map placed_of children.now)) }
 {

@@ -1,4 +1,4 @@
-// A job as plain numbers, read from its text.
+// A job as plain numbers, read from its text and written as its text.
 #![tactic(auto)]
 
 mod adding;
@@ -6,4 +6,7 @@ mod decoding;
 mod draft;
 pub mod job;
 mod late;
+mod limits;
 pub mod reading;
+pub mod rows;
+mod writing;

@@ -6,7 +6,7 @@ ghost use Rattle.jobs.specs.Drafts.{front};
 ghost use Rattle.faults.specs.Told.{told};
 ghost use Rattle.jobs.specs.Faults.{Refuses};
 ghost use Rattle.jobs.specs.Jobs.{numbers};
-ghost use Rattle.rows.specs.Limits.{most_bytes};
+ghost use Rattle.jobs.specs.Limits.{most_bytes};
 ghost use Rattle.jobs.specs.OneText.{OneText};
 ghost use Rattle.jobs.specs.Ranges.{InRange};
 ghost use Rattle.jobs.specs.Turns.{Taken, Halted, ReadUp, misfit_told, misread_told};
@@ -17,9 +17,9 @@ use crate::adding::add_line;
 use crate::draft::{Draft, Misfit};
 use crate::job::Job;
 use crate::late::beyond_tile;
+use crate::limits::MOST_BYTES;
 use faults::TextFault;
 use lines::{Misread, first_line};
-use rows::limits::MOST_BYTES;
 use std::alloc::Global;
 
 fn misfit_fault(e: Misfit, line: usize) -> TextFault

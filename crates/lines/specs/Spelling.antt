@@ -1,5 +1,5 @@
 -- How the numbers of a line are spelt.
-use Rattle.std.specs.Prelude.{◌≡◌, ℕ, ◌^◌, ◌<◌, ◌≤◌, Bool, true, false, List, [], ◌∷◌, ◌++◌, length, ℤ, pos, decimal, slice_index, unsigned_abs}
+use Rattle.std.specs.Prelude.{◌≡◌, ℕ, ◌^◌, ◌<◌, ◌≤◌, List, [], ◌∷◌, ◌++◌, length, ℤ, decimal, slice_index, unsigned_abs}
 use Rattle.std.specs.List.{flat_map, AllByRecursion as All}
 use Rattle.std.specs.Int.{IsInRange}
 use Rattle.std.specs.Fmt.{signed_decimal}
@@ -19,11 +19,6 @@ Ends (b ∷ bs) = b ≡ 32
 -- a number after its space; `signed` writes no leading zero, no plus and no -0
 abbrev pub word : ℤ → List ℕ
 word z = 32 ∷ signed_decimal z
-
--- a mark: 1 for true, 0 for false
-abbrev pub mark : Bool → ℤ
-mark true = pos 1
-mark false = pos 0
 
 -- bs begins with the number z, and rest is left
 pub record Word (bs : List ℕ) (z : ℤ) (rest : List ℕ) : Type 0 where

@@ -1,6 +1,6 @@
 // A job in words.
 use jobs::job::Job;
-use rows::{PlacedRow, Tile};
+use jobs::rows::{Placed, Tile};
 use std::alloc::{AllocError, Global};
 
 // Coefficients as a list, as (1, 0, 1, -1).
@@ -25,11 +25,10 @@ fn ring_name(order: u32) -> &'static str {
 }
 
 fn tell_labels(rt: &HostRuntime, job: &Job) -> anyhow::Result<()> {
-    let rows = job.labels.iter().zip(job.subdivisions.iter());
-    for (i, (label, subdivision)) in rows.enumerate() {
+    for (i, label) in job.labels().iter().enumerate() {
         let kind = if label.arrowed { "arrowed" } else { "plain" };
         let length = element(rt.alloc(), label.length.as_slice())?;
-        let parts = subdivision.len();
+        let parts = job.subdivision(i).unwrap_or(&[]).len();
         println!(rt; "label {i}: {kind}, length {length}, parts when inflated: {parts}")?;
     }
     Ok(())
@@ -44,7 +43,7 @@ fn tell_tiles(rt: &HostRuntime, tiles: &[Tile]) -> anyhow::Result<()> {
     Ok(())
 }
 
-fn tell_seeds(rt: &HostRuntime, seeds: &[PlacedRow]) -> anyhow::Result<()> {
+fn tell_seeds(rt: &HostRuntime, seeds: &[Placed]) -> anyhow::Result<()> {
     for (i, seed) in seeds.iter().enumerate() {
         let tile = seed.tile;
         let turn = seed.turn;
@@ -56,14 +55,14 @@ fn tell_seeds(rt: &HostRuntime, seeds: &[PlacedRow]) -> anyhow::Result<()> {
 }
 
 pub(crate) fn tell(rt: &HostRuntime, job: &Job) -> anyhow::Result<()> {
-    let order = job.order;
+    let order = job.order();
     let name = ring_name(order);
-    let factor = element(rt.alloc(), job.factor.as_slice())?;
-    let depth = job.depth;
+    let factor = element(rt.alloc(), job.factor())?;
+    let depth = job.depth();
     println!(rt; "ring: {name}, where a turn has {order} parts")?;
     println!(rt; "inflation factor: {factor}")?;
     tell_labels(rt, job)?;
-    tell_tiles(rt, job.tiles.as_slice())?;
+    tell_tiles(rt, job.tiles())?;
     println!(rt; "depth: {depth}")?;
-    tell_seeds(rt, job.seeds.as_slice())
+    tell_seeds(rt, job.seeds())
 }

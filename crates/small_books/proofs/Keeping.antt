@@ -16,10 +16,8 @@ use Rattle.chains.specs.Edges.{Edge, Chain, along, edge, step_count, walk, corne
 use Rattle.chains.specs.Inflation.{stepped, subdivided, inflate}
 use Rattle.chains.specs.Placements.{image, placed, placed_entry, placed_edge, outline, placed_outline, outlines}
 use Rattle.chains.specs.Accepted.{lengths, total_sweep}
-use Rattle.rows.specs.Limits.{most_parts, most_steps}
-use Rattle.edges.specs.Working.{KeptAlong, KeptImage, KeptCanonical}
-use Rattle.outlines.specs.Working.{KeptForms, KeptWalk, KeptOutline, KeptPlacedOutline}
-use Rattle.inflating.specs.Working.{KeptSubdivided, KeptInflated}
+use Rattle.edges.specs.Limits.{most_parts, most_steps}
+use Rattle.edges.specs.Working.{KeptAlong, KeptImage, KeptCanonical, KeptForms, KeptWalk, KeptOutline, KeptPlacedOutline, KeptSubdivided, KeptInflated}
 use Rattle.book.specs.Points.{KeptFactor, KeptLength, KeptLengths, KeptSubdivision, KeptRound, KeptBalance}
 use Rattle.book.proofs.Added.{zero_within}
 use Rattle.book.proofs.Short.{stepped_length}

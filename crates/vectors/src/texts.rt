@@ -2,7 +2,6 @@
 #[cfg(test)]
 mod tests {
     use faults::TextFault;
-    use job_texts::write;
     use jobs::reading::read;
     use refusals::Fault;
     use std::alloc::{AllocError, Global};
@@ -205,7 +204,7 @@ mod tests {
             Err(_) => return Err(Fail::new("refused")),
         };
         let mut buffer = [7; 4096];
-        let written = write(&job, &mut buffer);
+        let written = job.write(&mut buffer);
         assert!(rt; written.is_ok());
         let length = written.unwrap_or(0);
         assert!(rt; length == text.len() && length < buffer.len());
@@ -235,7 +234,7 @@ mod tests {
             Err(_) => return Err(Fail::new("refused")),
         };
         let mut buffer = [7; 140];
-        assert!(rt; write(&job, &mut buffer[0..100]).is_err());
+        assert!(rt; job.write(&mut buffer[0..100]).is_err());
         assert!(rt; buffer[0] == 7);
         Ok(())
     }

@@ -1,8 +1,8 @@
 use Rattle.std.proofs.Common.{◌≡◌, map, sym, refl, ap, ◌∙◌, subst}
 use Rattle.chains.specs.Edges.{canonical}
 use Rattle.edges.specs.Views.{chain_view, book_view}
-use Rattle.outlines.specs.Working.{KeptForms}
-use Rattle.outlines.proofs.Gather.{made_weaker, handed_on}
+use Rattle.edges.specs.Working.{KeptForms}
+use Rattle.edges.proofs.Gather.{made_weaker, handed_on}
 use Rattle.book.proofs.balance.children_forms.Goals as goal
 
 pub returns-in_err-chain : goal.returns-in_err-chain

@@ -3,9 +3,9 @@ use mathlib.Core.List.{flat_map}
 use Rattle.std.specs.List.{AllByRecursion as All}
 use Rattle.chains.specs.Placements.{outlines}
 use Rattle.edges.specs.Views.{chain_view, placement_view, book_view}
-use Rattle.outlines.specs.Working.{KeptPlacedOutline}
+use Rattle.edges.specs.Working.{KeptPlacedOutline}
 use Rattle.edges.proofs.Numbered.{tile_is, tile_past}
-use Rattle.outlines.proofs.Gather.{made_weaker}
+use Rattle.edges.proofs.Gather.{made_weaker}
 use Rattle.book.proofs.balance.children_outlines.Goals as goal
 
 pub returns-then-t-len : goal.returns-then-t-len

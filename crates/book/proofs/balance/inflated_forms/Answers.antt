@@ -2,9 +2,8 @@ use Rattle.std.proofs.Common.{◌≡◌, map, sym, refl, ap, ◌∙◌, subst}
 use Rattle.chains.specs.Edges.{canonical}
 use Rattle.chains.specs.Inflation.{inflate}
 use Rattle.edges.specs.Views.{chain_view, book_view}
-use Rattle.outlines.specs.Working.{KeptForms}
-use Rattle.inflating.specs.Working.{KeptInflated}
-use Rattle.outlines.proofs.Gather.{made_weaker, handed_on}
+use Rattle.edges.specs.Working.{KeptInflated, KeptForms}
+use Rattle.edges.proofs.Gather.{made_weaker, handed_on}
 use Rattle.book.proofs.balance.inflated_forms.Goals as goal
 
 pub returns-in_err-outline : goal.returns-in_err-outline

@@ -3,9 +3,9 @@ use Rattle.chains.specs.Books.{tile_at}
 use Rattle.chains.specs.Edges.{canonical}
 use Rattle.chains.specs.Inflation.{inflate}
 use Rattle.chains.specs.Placements.{outline, outlines}
-use Rattle.rows.specs.Limits.{most_parts, most_steps, most_children}
+use Rattle.edges.specs.Limits.{most_parts, most_steps, most_children}
 use Rattle.edges.specs.Views.{chain_view, book_view}
-use Rattle.outlines.proofs.Gather.{handed_on}
+use Rattle.edges.proofs.Gather.{handed_on}
 use Rattle.book.proofs.Short.{as_long, parts_count, whole_count}
 use Rattle.book.proofs.Balances.{carried}
 use Rattle.book.proofs.balance.tile_difference.Goals as goal

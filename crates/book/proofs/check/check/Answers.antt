@@ -1,8 +1,7 @@
-use Rattle.std.proofs.Common.{◌≡◌, sym, refl, ap, ◌∙◌, subst, rules}
-use Rattle.std.specs.List.{AllByRecursion as All}
+use Rattle.std.proofs.Common.{◌≡◌, sym, refl, ap, ◌∙◌, subst}
 use Rattle.edges.specs.Views.{book_view}
 use Rattle.book.proofs.Judging.{after_factor, after_lengths, after_subdivisions, after_outlines, before_all, judged_err, decided}
-use Rattle.book.specs.Points.{points, Passed, length_points, subdivision_points}
+use Rattle.book.specs.Points.{points}
 use Rattle.book.proofs.check.check.Goals as goal
 
 pub returns-in_err-check_factor : goal.returns-in_err-check_factor
@@ -28,10 +27,8 @@ returns-in_err-check_subdivisions g c =
 pub returns-in_err-check_outlines : goal.returns-in_err-check_outlines
 returns-in_err-check_outlines g c =
     let E = g.R.Ring.exact in let v = g.R.Ring.value in let B = book_view E v c.args.book.now in
-    let lengths : All (Passed E B) (length_points E B) = search rules in
-    let subdivisions : All (Passed E B) (subdivision_points E B) = search rules in
     let j = judged_err E B v c.from_residual-in_err-check_outlines.result _ _ c.from_residual-in_err-check_outlines.ensures.1
-    (after_subdivisions E B v _ c.in_ok-check_factor.ensures.is lengths subdivisions c.in_err-check_outlines.ensures.is) in
+    (after_subdivisions E B v _ c.in_ok-check_factor.ensures.is c.in_ok-check_lengths.ensures.is c.in_ok-check_subdivisions.ensures.is c.in_err-check_outlines.ensures.is) in
     record { first = j; decides = decided E B v _ j }
 
 pub returns : goal.returns

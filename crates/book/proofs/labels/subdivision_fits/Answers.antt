@@ -1,7 +1,6 @@
 use Rattle.std.proofs.Common.{◌≡◌, map, Decides, sym, refl, ap, ◌∙◌, subst}
 use Rattle.chains.specs.Accepted.{lengths, backwards}
-use Rattle.rows.specs.Rows.{part_of}
-use Rattle.edges.specs.Views.{book_view, label_view}
+use Rattle.edges.specs.Views.{book_view, label_view, part_view}
 use Rattle.edges.proofs.Numbered.{label_is}
 use Rattle.book.specs.Points.{KeptLengths}
 use Rattle.book.proofs.Tests.{test_broke_off, equal_decided}
@@ -13,7 +12,7 @@ returns-in_err-total g c =
     let E = g.R.Ring.exact in let v = g.R.Ring.value in let B = book_view E v c.args.book.now in
     let l = label_is E v c.args.book.now c.args.e _ c.index-label.result.now refl c.requires c.index-label.ensures in
     test_broke_off c.from_residual.result _ _ _ _ c.from_residual.ensures.1
-    (λ k. subst (λ x. KeptLengths E B (map part_of x)) (sym c.as_slice.ensures.value) (sums_at E B c.args.e _ l k)) c.in_err-total.ensures.is
+    (λ k. subst (λ x. KeptLengths E B (map part_view x)) (sym c.as_slice.ensures.value) (sums_at E B c.args.e _ l k)) c.in_err-total.ensures.is
 
 pub returns-in_err-want : goal.returns-in_err-want
 unfolding book_view
@@ -28,7 +27,7 @@ returns-then-not-fills g c =
     let E = g.R.Ring.exact in let v = g.R.Ring.value in let B = book_view E v c.args.book.now in
     let l = label_is E v c.args.book.now c.args.e _ c.index-label.result.now refl c.requires c.index-label.ensures in
     let d = equal_decided E g.met.R.Ring.lawful _ _ _ _ _ (g.met.R.Ring.decided _ _ _ c.eq-fills.ensures)
-    (c.in_ok-total.ensures.is.0 ∙ ap (λ x. lengths E B (map part_of x)) c.as_slice.ensures.value) c.in_ok-want.ensures.is.0 in
+    (c.in_ok-total.ensures.is.0 ∙ ap (λ x. lengths E B (map part_view x)) c.as_slice.ensures.value) c.in_ok-want.ensures.is.0 in
     unfilled E B c.args.e (label_view E v c.index-label.result.now) l _ d c.if-not-fills.true
 
 pub returns-then-label : goal.returns-then-label
@@ -37,9 +36,9 @@ returns-then-label g c =
     let E = g.R.Ring.exact in let v = g.R.Ring.value in let B = book_view E v c.args.book.now in
     let l = label_is E v c.args.book.now c.args.e _ c.index-label.result.now refl c.requires c.index-label.ensures in
     let d = equal_decided E g.met.R.Ring.lawful _ _ _ _ _ (g.met.R.Ring.decided _ _ _ c.eq-fills.ensures)
-    (c.in_ok-total.ensures.is.0 ∙ ap (λ x. lengths E B (map part_of x)) c.as_slice.ensures.value) c.in_ok-want.ensures.is.0 in
+    (c.in_ok-total.ensures.is.0 ∙ ap (λ x. lengths E B (map part_view x)) c.as_slice.ensures.value) c.in_ok-want.ensures.is.0 in
     arrowed_fits E B c.args.e (label_view E v c.index-label.result.now) l _ d c.if-not-fills.false
-    (subst (λ x. KeptLengths E B (map part_of x)) c.as_slice.ensures.value c.in_ok-total.ensures.is.1) c.in_ok-want.ensures.is.1 c.if-label.true
+    (subst (λ x. KeptLengths E B (map part_view x)) c.as_slice.ensures.value c.in_ok-total.ensures.is.1) c.in_ok-want.ensures.is.1 c.if-label.true
 
 pub returns : goal.returns
 unfolding book_view
@@ -47,8 +46,8 @@ returns g c =
     let E = g.R.Ring.exact in let v = g.R.Ring.value in let B = book_view E v c.args.book.now in
     let l = label_is E v c.args.book.now c.args.e _ c.index-label.result.now refl c.requires c.index-label.ensures in
     let d = equal_decided E g.met.R.Ring.lawful _ _ _ _ _ (g.met.R.Ring.decided _ _ _ c.eq-fills.ensures)
-    (c.in_ok-total.ensures.is.0 ∙ ap (λ x. lengths E B (map part_of x)) c.as_slice.ensures.value) c.in_ok-want.ensures.is.0 in
+    (c.in_ok-total.ensures.is.0 ∙ ap (λ x. lengths E B (map part_view x)) c.as_slice.ensures.value) c.in_ok-want.ensures.is.0 in
     plain_fits E B c.args.e (label_view E v c.index-label.result.now) l _ d c.if-not-fills.false
-    (subst (λ x. KeptLengths E B (map part_of x)) c.as_slice.ensures.value c.in_ok-total.ensures.is.1) c.in_ok-want.ensures.is.1
+    (subst (λ x. KeptLengths E B (map part_view x)) c.as_slice.ensures.value c.in_ok-total.ensures.is.1) c.in_ok-want.ensures.is.1
     c.is_palindrome.result c.if-label.false
-    (subst (λ x. Decides c.is_palindrome.result (backwards E B (map part_of x) ≡ map part_of x)) c.as_slice-2.ensures.value c.is_palindrome.ensures)
+    (subst (λ x. Decides c.is_palindrome.result (backwards E B (map part_view x) ≡ map part_view x)) c.as_slice-2.ensures.value c.is_palindrome.ensures)

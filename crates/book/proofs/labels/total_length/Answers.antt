@@ -2,9 +2,8 @@ use Rattle.std.proofs.Common.{◌≡◌, ◌-◌, ◌<◌, ◌≤◌, false, map
 use Rattle.std.proofs.lemmas.Result.{err_from_is_err_and}
 use Rattle.rings.specs.Plane.{OnPlane}
 use Rattle.chains.specs.Accepted.{lengths}
-use Rattle.rows.specs.declared.Part.{Part}
-use Rattle.rows.specs.Rows.{part_of}
-use Rattle.edges.specs.Views.{book_view}
+use Rattle.edges.specs.declared.rows.Part.{Part}
+use Rattle.edges.specs.Views.{book_view, part_view}
 use Rattle.book.specs.Points.{KeptLengths}
 use Rattle.book.proofs.Lengthwise.{lengths_end, lengths_more, kept_at, kept_down, kept_none}
 use Rattle.book.proofs.Tests.{broke_off}
@@ -36,4 +35,4 @@ pub returns : goal.returns
 returns g c =
     let E = g.R.Ring.exact in let B = book_view E g.R.Ring.value c.args.book.now in
     let z : c.loop-i.i ≡ 0 = omega arith in
-    record { is = (c.loop-i.invariant.0 ∙ ap (λ n. lengths E B (map part_of (drop n c.args.parts.now))) z, subst (λ n. KeptLengths E B (map part_of (drop n c.args.parts.now))) z c.loop-i.invariant.1) }
+    record { is = (c.loop-i.invariant.0 ∙ ap (λ n. lengths E B (map part_view (drop n c.args.parts.now))) z, subst (λ n. KeptLengths E B (map part_view (drop n c.args.parts.now))) z c.loop-i.invariant.1) }

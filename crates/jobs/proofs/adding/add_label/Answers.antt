@@ -4,7 +4,7 @@ use Rattle.std.proofs.lemmas.Result.{err_from_is_err_and}
 use Rattle.lines.specs.Letters.{letter-L}
 use Rattle.jobs.specs.Drafts.{front}
 use Rattle.jobs.specs.Fronts.{Place}
-use Rattle.rows.specs.Rows.{head_of}
+use Rattle.jobs.specs.Rows.{head_of}
 use Rattle.jobs.proofs.Adds.{unfit_label, set_heads}
 use Rattle.jobs.proofs.adding.add_label.Goals as goal
 

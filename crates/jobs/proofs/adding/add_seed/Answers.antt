@@ -4,7 +4,7 @@ use Rattle.std.proofs.lemmas.Result.{err_from_is_err_and}
 use Rattle.lines.specs.Letters.{letter-P}
 use Rattle.jobs.specs.Drafts.{front}
 use Rattle.jobs.specs.Fronts.{Place}
-use Rattle.rows.specs.Rows.{placed_of}
+use Rattle.jobs.specs.Rows.{placed_of}
 use Rattle.jobs.proofs.Adds.{unfit_seed, no_tile, set_seeds}
 use Rattle.jobs.proofs.adding.add_seed.Goals as goal
 

@@ -2,11 +2,11 @@ use Rattle.std.proofs.Common.{◌≡◌, ◌<◌, [], ◌∷◌, ◌++◌, map, 
 use Rattle.std.proofs.lemmas.List.{length-map, map_push}
 use Rattle.std.proofs.lemmas.Result.{err_from_is_err_and}
 use Rattle.lines.specs.Letters.{letter-S}
-use Rattle.rows.specs.declared.Label.{Label}
+use Rattle.jobs.specs.declared.rows.Label.{Label}
 use Rattle.jobs.specs.Drafts.{front}
 use Rattle.jobs.specs.Fronts.{Place, kinds}
 use Rattle.jobs.specs.Ranges.{SubdivisionFits}
-use Rattle.rows.specs.Rows.{head_of, part_of}
+use Rattle.jobs.specs.Rows.{head_of, part_of}
 use Rattle.jobs.proofs.Adds.{unfit_subdivision, set_subdivisions, kinds_heads}
 use Rattle.jobs.proofs.adding.add_subdivision.Goals as goal
 

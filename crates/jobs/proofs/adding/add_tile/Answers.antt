@@ -1,11 +1,11 @@
 use Rattle.std.proofs.Common.{◌≡◌, map, vec_items, sym, ap, ◌∙◌, subst, rules}
 use Rattle.std.proofs.lemmas.Result.{err_from_is_err_and}
 use Rattle.lines.specs.Letters.{letter-T}
-use Rattle.rows.specs.declared.Label.{Label}
+use Rattle.jobs.specs.declared.rows.Label.{Label}
 use Rattle.jobs.specs.Drafts.{front}
 use Rattle.jobs.specs.Fronts.{Place, kinds}
 use Rattle.jobs.specs.Ranges.{OutlineFits}
-use Rattle.rows.specs.Rows.{step_of}
+use Rattle.jobs.specs.Rows.{step_of}
 use Rattle.jobs.proofs.Adds.{no_memory, unfit_outline, set_outline, kinds_heads}
 use Rattle.jobs.proofs.adding.add_tile.Goals as goal
 

@@ -1,7 +1,7 @@
 use Rattle.std.proofs.Common.{◌≡◌, [], map, length, vec_items, sym, ap, ◌∙◌, arith, rules}
 use Rattle.std.proofs.lemmas.List.{length-map, map_push}
 use Rattle.jobs.specs.Drafts.{front}
-use Rattle.rows.specs.Rows.{step_of, placed_of, tile_of}
+use Rattle.jobs.specs.Rows.{step_of, placed_of, tile_of}
 use Rattle.jobs.proofs.Adds.{closed_none, closed_some}
 use Rattle.jobs.proofs.adding.close_tile.Goals as goal
 

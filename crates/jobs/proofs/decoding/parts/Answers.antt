@@ -1,8 +1,8 @@
 use Rattle.std.proofs.Common.{◌≡◌, ◌-◌, ◌<◌, ◌≤◌, [], ◌∷◌, ◌++◌, map, length, take, drop, vec_items, sym, ap, ◌∙◌, subst, arith, rules}
 use Rattle.std.proofs.lemmas.List.{map_push, take_rest}
-use Rattle.rows.specs.declared.Label.{Label}
+use Rattle.jobs.specs.declared.rows.Label.{Label}
 use Rattle.jobs.specs.Ranges.{PartFits}
-use Rattle.rows.specs.Rows.{part_of}
+use Rattle.jobs.specs.Rows.{part_of}
 use Rattle.jobs.specs.Spelled.{part_numbers}
 use Rattle.jobs.proofs.Series.{Upto, upto_none, upto_more, upto_all, upto_stuck, part_unique, length_parts}
 use Rattle.jobs.proofs.decoding.parts.Goals as goal

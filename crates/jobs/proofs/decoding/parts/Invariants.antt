@@ -1,7 +1,7 @@
 use Rattle.std.proofs.Common.{map, length, vec_items}
-use Rattle.rows.specs.declared.Label.{Label}
+use Rattle.jobs.specs.declared.rows.Label.{Label}
 use Rattle.jobs.specs.Ranges.{PartFits}
-use Rattle.rows.specs.Rows.{part_of}
+use Rattle.jobs.specs.Rows.{part_of}
 use Rattle.jobs.specs.Spelled.{part_numbers}
 use Rattle.jobs.proofs.Series.{Upto}
 use Rattle.jobs.proofs.decoding.parts.Given as goal

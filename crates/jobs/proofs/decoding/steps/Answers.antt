@@ -1,8 +1,8 @@
 use Rattle.std.proofs.Common.{◌≡◌, ◌-◌, ◌<◌, ◌≤◌, [], ◌∷◌, ◌++◌, map, length, take, drop, vec_items, sym, ap, ◌∙◌, subst, arith, rules}
 use Rattle.std.proofs.lemmas.List.{map_push, take_rest}
-use Rattle.rows.specs.declared.Label.{Label}
+use Rattle.jobs.specs.declared.rows.Label.{Label}
 use Rattle.jobs.specs.Ranges.{StepFits}
-use Rattle.rows.specs.Rows.{step_of}
+use Rattle.jobs.specs.Rows.{step_of}
 use Rattle.jobs.specs.Spelled.{step_numbers}
 use Rattle.jobs.proofs.Series.{Upto, upto_none, upto_more, upto_all, upto_stuck, step_unique, length_steps}
 use Rattle.jobs.proofs.decoding.steps.Goals as goal

@@ -1,7 +1,7 @@
 use Rattle.std.proofs.Common.{◌≡◌, ◌+◌, ◌<◌, ◌≤◌, map, length, drop, sym, refl, ap, ◌∙◌, arith, rules}
 use Rattle.std.proofs.lemmas.List.{drop_all}
 use Rattle.jobs.specs.Refusals.{first_beyond}
-use Rattle.rows.specs.Rows.{placed_of}
+use Rattle.jobs.specs.Rows.{placed_of}
 use Rattle.jobs.specs.Spelled.{child_line}
 use Rattle.jobs.proofs.Lates.{child_late, child_fine, at_line}
 use Rattle.jobs.proofs.late.beyond_child.Goals as goal

@@ -1,6 +1,6 @@
 use Rattle.std.proofs.Common.{◌≡◌, ◌+◌, map, drop}
 use Rattle.jobs.specs.Refusals.{first_beyond}
-use Rattle.rows.specs.Rows.{placed_of}
+use Rattle.jobs.specs.Rows.{placed_of}
 use Rattle.jobs.specs.Spelled.{child_line}
 use Rattle.jobs.proofs.late.beyond_child.Given as goal
 

@@ -2,7 +2,7 @@ use Rattle.std.proofs.Common.{◌≡◌, ◌+◌, ◌<◌, ◌≤◌, map, lengt
 use Rattle.std.specs.List.{flat_map}
 use Rattle.std.proofs.lemmas.List.{drop_all}
 use Rattle.jobs.specs.Refusals.{first_beyond}
-use Rattle.rows.specs.Rows.{placed_of, tile_of}
+use Rattle.jobs.specs.Rows.{placed_of, tile_of}
 use Rattle.jobs.specs.Spelled.{child_line, tile_lines}
 use Rattle.jobs.proofs.Lates.{tile_length, tile_late, tile_fine, at_line}
 use Rattle.jobs.proofs.late.beyond_tile.Goals as goal

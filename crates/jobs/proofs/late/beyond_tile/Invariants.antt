@@ -1,7 +1,7 @@
 use Rattle.std.proofs.Common.{◌≡◌, ◌+◌, map, length, drop}
 use Rattle.std.specs.List.{flat_map}
 use Rattle.jobs.specs.Refusals.{first_beyond}
-use Rattle.rows.specs.Rows.{tile_of}
+use Rattle.jobs.specs.Rows.{tile_of}
 use Rattle.jobs.specs.Spelled.{tile_lines}
 use Rattle.jobs.proofs.late.beyond_tile.Given as goal
 

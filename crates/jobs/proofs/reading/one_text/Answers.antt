@@ -1,5 +1,5 @@
 use Rattle.std.proofs.Common.{◌≤◌, length, sym, refl, ◌∙◌, subst}
-use Rattle.rows.specs.Limits.{most_bytes}
+use Rattle.jobs.specs.Limits.{most_bytes}
 use Rattle.jobs.proofs.Verdicts.{refused_one, job_accepted, job_one}
 use Rattle.jobs.proofs.Widths.{job_fits}
 use Rattle.jobs.proofs.reading.one_text.Goals as goal

@@ -10,7 +10,7 @@ use Rattle.jobs.specs.Fronts.{job_of}
 use Rattle.jobs.specs.Jobs.{numbers}
 use Rattle.jobs.specs.Ranges.{InRange}
 use Rattle.jobs.specs.Refusals.{Refused, overlong}
-use Rattle.rows.specs.Rows.{head_of, tile_of}
+use Rattle.jobs.specs.Rows.{head_of, tile_of}
 use Rattle.jobs.specs.Spelled.{spelled, tile_lines}
 use Rattle.jobs.proofs.Halts.{read_up, accepts_of, refuses_of, late_of, room_of, spelled_of}
 use Rattle.jobs.proofs.reading.read.Goals as goal

@@ -3,7 +3,7 @@ use Rattle.std.proofs.lemmas.List.{length-map}
 use Rattle.std.proofs.lemmas.Result.{err_from_is_err_and}
 use Rattle.lines.proofs.Fronted.{first_shorter}
 use Rattle.jobs.specs.Drafts.{front}
-use Rattle.rows.specs.Rows.{head_of, part_of, step_of, placed_of, tile_of}
+use Rattle.jobs.specs.Rows.{head_of, part_of, step_of, placed_of, tile_of}
 use Rattle.jobs.proofs.Halts.{Sofar, sofar_start, sofar_more, sofar_refused, sofar_early, sofar_all}
 use Rattle.jobs.proofs.Shapes.{whole_front}
 use Rattle.jobs.proofs.reading.read_lines.Goals as goal

@@ -2,7 +2,7 @@ use Rattle.std.proofs.Common.{map, vec_items, sym, subst, arith}
 use Rattle.std.proofs.lemmas.List.{length-map}
 use Rattle.jobs.specs.Fronts.{numbers_of}
 use Rattle.jobs.specs.Ranges.{InRange}
-use Rattle.rows.specs.Rows.{head_of, part_of, placed_of, tile_of}
+use Rattle.jobs.specs.Rows.{head_of, part_of, placed_of, tile_of}
 use Rattle.jobs.proofs.job.Job.of.Goals as goal
 
 pub invariant_of-result : goal.invariant_of-result

@@ -1,0 +1,39 @@
+// The rows of a job: numbers only, with no meaning in a ring.
+
+// An edge label: arrowed or plain, and its length as coefficients.
+#[derive(Drop)]
+pub struct Label {
+    pub arrowed: bool,
+    pub length: Vec<i64>,
+}
+
+// A label with a sense, in a subdivision.
+#[derive(Clone, Copy, PartialEq, Eq)]
+pub struct Part {
+    pub label: usize,
+    pub forward: bool,
+}
+
+// A step of an outline: a label with a sense, and a direction in parts of a turn.
+#[derive(Clone, Copy, PartialEq, Eq)]
+pub struct Step {
+    pub label: usize,
+    pub forward: bool,
+    pub direction: u32,
+}
+
+// A tile turned, mirrored or not, and brought to a place: a child, or a seed tile.
+#[derive(Drop)]
+pub struct Placed {
+    pub tile: usize,
+    pub turn: u32,
+    pub mirrored: bool,
+    pub place: Vec<i64>,
+}
+
+// A tile: its outline, and the children that it is cut into when it is inflated.
+#[derive(Drop)]
+pub struct Tile {
+    pub outline: Vec<Step>,
+    pub children: Vec<Placed>,
+}
