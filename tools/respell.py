@@ -75,9 +75,15 @@ count = 0
 for path in files(".antt", ".rt", ".edit"):
     old = read(path)
     lines = []
+    all_renamed = "AllByRecursion as All" in old
     for line in old.split("\n"):
         code, comment = code_of(line, path)
-        lines.append(TOKEN.sub(lambda m: table.get(m.group(1), m.group(1)), code) + comment)
+        code = TOKEN.sub(lambda m: table.get(m.group(1), m.group(1)), code)
+        if all_renamed:
+            # port.py gave the list's All, by recursion, the name of today's All, by index
+            code = code.replace("AllByRecursion as All", "AllByRecursion")
+            code = re.sub(r"(?<![\w.'-])All(?![\w'-])", "AllByRecursion", code)
+        lines.append(code + comment)
     new = "\n".join(lines)
     if new != old:
         count += 1

@@ -2,7 +2,7 @@
 use Rattle.std.proofs.Common.{◌≡◌, List, [], ◌∷◌, ◌++◌, map, ℤ, pos, ◌-ℤ◌, Some, None, Option, sym, refl, ap, ◌∙◌, subst, arith, MatchOption}
 use mathlib.Core.List.{map-append}
 use Rattle.std.proofs.lemmas.Int.{ints}
-use Rattle.std.specs.List.{AllByRecursion as All}
+use Rattle.std.specs.List.{AllByRecursion}
 use Rattle.std.proofs.ByRecursion.{All-map}
 use Rattle.exact.specs.Cyclotomic.{Cyclotomic, CyclotomicLaws}
 use Rattle.chains.specs.Books.{Book}
@@ -18,10 +18,10 @@ module _ {S : Type 0} (E : Cyclotomic) (v : S → E.Elem) (p w : List (Counted S
   abbrev pub Passes : Counted S → Type 0
   Passes x = SameAt E (chain_view E v p) (chain_view E v w) (counted_view E v x)
 
-  pub agree : All Passes (p ++ w) → Agree E (chain_view E v p) (chain_view E v w)
-  agree h = subst (All (SameAt E (chain_view E v p) (chain_view E v w))) (map-append (counted_view E v) p w) (All-map (SameAt E (chain_view E v p) (chain_view E v w)) (counted_view E v) (p ++ w) h)
+  pub agree : AllByRecursion Passes (p ++ w) → Agree E (chain_view E v p) (chain_view E v w)
+  agree h = subst (AllByRecursion (SameAt E (chain_view E v p) (chain_view E v w))) (map-append (counted_view E v) p w) (All-map (SameAt E (chain_view E v p) (chain_view E v w)) (counted_view E v) (p ++ w) h)
 
-  pub first : (before : List (Counted S)) (x : Counted S) (after : List (Counted S)) → p ++ w ≡ before ++ x ∷ after → All Passes before →
+  pub first : (before : List (Counted S)) (x : Counted S) (after : List (Counted S)) → p ++ w ≡ before ++ x ∷ after → AllByRecursion Passes before →
       (d : ℤ) → d ≡ gap E (chain_view E v p) (chain_view E v w) (edge_view E v x.edge) → (d ≡ pos 0 → ⊥) → FirstDifference E (chain_view E v p) (chain_view E v w) (edge_view E v x.edge) d
   first before x after e h d k n = record {
     before = chain_view E v before;
@@ -40,7 +40,7 @@ odd : (a b : ℤ) → a ≡ b → a -ℤ b ≡ pos 0
 odd a b h = omega (arith, ints)
 
 module _ (E : Cyclotomic) (B : Book E) (xs ys : Chain E) where
-  at : (zs : Chain E) → All (SameAt E (map (canonical E B) xs) (map (canonical E B) ys)) (map (canonical E B) zs) → All (λ x. net E B xs (canonical E B x).what ≡ net E B ys (canonical E B x).what) zs
+  at : (zs : Chain E) → AllByRecursion (SameAt E (map (canonical E B) xs) (map (canonical E B) ys)) (map (canonical E B) zs) → AllByRecursion (λ x. net E B xs (canonical E B x).what ≡ net E B ys (canonical E B x).what) zs
   unfolding net gap
   at [] h = tt
   at (z ∷ zs) h = (even _ _ h.0, at zs h.1)

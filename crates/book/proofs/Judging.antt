@@ -1,6 +1,6 @@
 -- Points passed one after another, and the first that is not.
 use Rattle.std.proofs.Common.{◌≡◌, ℕ, ◌+◌, ◌<◌, ◌≤◌, List, [], ◌∷◌, ◌++◌, map, length, get_or, take, drop, IsErrAnd, Ok, Err, Result, sym, refl, ap, ◌∙◌, subst, append_assoc, arith, MatchResult}
-use Rattle.std.specs.List.{range_with_len, AllByRecursion as All}
+use Rattle.std.specs.List.{range_with_len, AllByRecursion}
 use Rattle.std.proofs.lemmas.List.{take-append-drop, drop_more}
 use Rattle.std.proofs.lemmas.List.FromFn.{length-map-range_with_len, get_or-map-range_with_len, take-map-range_with_len}
 use Rattle.std.proofs.ByRecursion.{All-get_or, All-from_get_or}
@@ -24,11 +24,11 @@ use Rattle.book.proofs.Balances.{no_difference}
 
 -- what holds of every number below n holds of all that they are numbers of, and the other way
 module _ {X : Type 0} (P : X → Type 0) (f : ℕ → X) where
-  pub all_below : (n : ℕ) → ((k : ℕ) → k < n → P (f k)) → All P (map f (range_with_len 0 n))
+  pub all_below : (n : ℕ) → ((k : ℕ) → k < n → P (f k)) → AllByRecursion P (map f (range_with_len 0 n))
   all_below n h = All-from_get_or P (map f (range_with_len 0 n)) (f 0)
       (λ i l. let m = subst (λ k. i < k) (length-map-range_with_len f 0 n) l in subst P (sym (get_or-map-range_with_len f 0 n i i (f 0) m (omega arith))) (h i m))
 
-  pub each_below : (n k : ℕ) → k < n → All P (map f (range_with_len 0 n)) → P (f k)
+  pub each_below : (n k : ℕ) → k < n → AllByRecursion P (map f (range_with_len 0 n)) → P (f k)
   each_below n k h a = subst P (get_or-map-range_with_len f 0 n k k (f 0) h (omega arith)) (All-get_or P (map f (range_with_len 0 n)) k (f 0) (subst (λ m. k < m) (sym (length-map-range_with_len f 0 n)) h) a)
 
   -- number k of them, and what stands around it
@@ -42,8 +42,8 @@ module _ {X : Type 0} (P : X → Type 0) (f : ℕ → X) where
       )
 
 -- what holds of all holds of one in the middle
-middle : {X : Type 0} (P : X → Type 0) (xs before : List X) (x : X) (after : List X) → xs ≡ before ++ x ∷ after → All P xs → P x
-middle P xs before x after e a = (all_back P before (x ∷ after) (subst (All P) e a)).0
+middle : {X : Type 0} (P : X → Type 0) (xs before : List X) (x : X) (after : List X) → xs ≡ before ++ x ∷ after → AllByRecursion P xs → P x
+middle P xs before x after e a = (all_back P before (x ∷ after) (subst (AllByRecursion P) e a)).0
 
 module _ (E : Cyclotomic) (B : Book E) {S : Type 0} (v : S → E.Elem) where
   pub at_number : (p : ℕ → Point) (n m k : ℕ) (f : BookFault S) → n ≡ m → k < n → ((i : ℕ) → i < k → Passed E B (p i)) → Refuses E B v (p k) f → FirstFault E B v (map p (range_with_len 0 m)) f
@@ -55,13 +55,13 @@ module _ (E : Cyclotomic) (B : Book E) {S : Type 0} (v : S → E.Elem) where
   at_factor f r = record { before = []; here = the_factor; after = []; found = refl; earlier = tt; refuses = r }
 
   -- after points that are passed, and before others
-  pub later : (xs ys : List Point) (f : BookFault S) → All (Passed E B) xs → FirstFault E B v ys f → FirstFault E B v (xs ++ ys) f
+  pub later : (xs ys : List Point) (f : BookFault S) → AllByRecursion (Passed E B) xs → FirstFault E B v ys f → FirstFault E B v (xs ++ ys) f
   later xs ys f a r = record { before = xs ++ r.before; here = r.here; after = r.after; found = ap (λ l. xs ++ l) r.found ∙ sym (append_assoc xs r.before (r.here ∷ r.after)); earlier = all_append (Passed E B) xs r.before a r.earlier; refuses = r.refuses }
 
   pub sooner : (xs ys : List Point) (f : BookFault S) → FirstFault E B v xs f → FirstFault E B v (xs ++ ys) f
   sooner xs ys f r = record { before = r.before; here = r.here; after = r.after ++ ys; found = ap (λ l. l ++ ys) r.found ∙ append_assoc r.before (r.here ∷ r.after) ys; earlier = r.earlier; refuses = r.refuses }
 
-  pub judged_later : {A : Type 0} (r : Result A (BookFault S)) (xs ys : List Point) → All (Passed E B) xs → Judged E B v r ys → Judged E B v r (xs ++ ys)
+  pub judged_later : {A : Type 0} (r : Result A (BookFault S)) (xs ys : List Point) → AllByRecursion (Passed E B) xs → Judged E B v r ys → Judged E B v r (xs ++ ys)
   judged_later (Ok x) xs ys a j = record { is = all_append (Passed E B) xs ys a j.is }
   judged_later (Err f) xs ys a j = record { is = later xs ys f a j.is }
 
@@ -76,7 +76,7 @@ module _ (E : Cyclotomic) (B : Book E) {S : Type 0} (v : S → E.Elem) where
   excused p chain.Memory h = tt
 
   -- ---- what a verdict says of the whole book
-  pub accepted : All (Passed E B) (points E B) → Accepted E B × WorkedOnThePlane E B
+  pub accepted : AllByRecursion (Passed E B) (points E B) → Accepted E B × WorkedOnThePlane E B
   unfolding points
   accepted a =
       let P = Passed E B in
@@ -93,11 +93,11 @@ module _ (E : Cyclotomic) (B : Book E) {S : Type 0} (v : S → E.Elem) where
         kept (points E B) a,
       )
     where
-      kept : (ps : List Point) → All (Passed E B) ps → All (Kept E B) ps
+      kept : (ps : List Point) → AllByRecursion (Passed E B) ps → AllByRecursion (Kept E B) ps
       kept [] a = tt
       kept (p ∷ ps) a = (a.0.0, kept ps a.1)
 
-  pub all_hold : Accepted E B → All (Holds E B) (points E B)
+  pub all_hold : Accepted E B → AllByRecursion (Holds E B) (points E B)
   unfolding points
   all_hold a =
       let H = Holds E B in (
@@ -126,19 +126,19 @@ module _ (E : Cyclotomic) (B : Book E) {S : Type 0} (v : S → E.Elem) where
     unfolding points
     before_all r = sooner (the_factor ∷ []) (length_points E B ++ (subdivision_points E B ++ (outline_points E B ++ children_points E B))) f r
 
-    pub after_factor : All (Passed E B) (the_factor ∷ []) → FirstFault E B v (length_points E B) f → FirstFault E B v (points E B) f
+    pub after_factor : AllByRecursion (Passed E B) (the_factor ∷ []) → FirstFault E B v (length_points E B) f → FirstFault E B v (points E B) f
     unfolding points
     after_factor a r = later (the_factor ∷ []) _ f a (sooner (length_points E B) (subdivision_points E B ++ (outline_points E B ++ children_points E B)) f r)
 
-    pub after_lengths : All (Passed E B) (the_factor ∷ []) → All (Passed E B) (length_points E B) → FirstFault E B v (subdivision_points E B) f → FirstFault E B v (points E B) f
+    pub after_lengths : AllByRecursion (Passed E B) (the_factor ∷ []) → AllByRecursion (Passed E B) (length_points E B) → FirstFault E B v (subdivision_points E B) f → FirstFault E B v (points E B) f
     unfolding points
     after_lengths a b r = later (the_factor ∷ []) _ f a (later (length_points E B) _ f b (sooner (subdivision_points E B) (outline_points E B ++ children_points E B) f r))
 
-    pub after_subdivisions : All (Passed E B) (the_factor ∷ []) → All (Passed E B) (length_points E B) → All (Passed E B) (subdivision_points E B) → FirstFault E B v (outline_points E B) f → FirstFault E B v (points E B) f
+    pub after_subdivisions : AllByRecursion (Passed E B) (the_factor ∷ []) → AllByRecursion (Passed E B) (length_points E B) → AllByRecursion (Passed E B) (subdivision_points E B) → FirstFault E B v (outline_points E B) f → FirstFault E B v (points E B) f
     unfolding points
     after_subdivisions a b c r = later (the_factor ∷ []) _ f a (later (length_points E B) _ f b (later (subdivision_points E B) _ f c (sooner (outline_points E B) (children_points E B) f r)))
 
-  pub after_outlines : {A : Type 0} (r : Result A (BookFault S)) → All (Passed E B) (the_factor ∷ []) → All (Passed E B) (length_points E B) → All (Passed E B) (subdivision_points E B) → All (Passed E B) (outline_points E B) →
+  pub after_outlines : {A : Type 0} (r : Result A (BookFault S)) → AllByRecursion (Passed E B) (the_factor ∷ []) → AllByRecursion (Passed E B) (length_points E B) → AllByRecursion (Passed E B) (subdivision_points E B) → AllByRecursion (Passed E B) (outline_points E B) →
       Judged E B v r (children_points E B) → Judged E B v r (points E B)
   unfolding points
   after_outlines r a b c d j = judged_later r (the_factor ∷ []) _ a (judged_later r (length_points E B) _ b (judged_later r (subdivision_points E B) _ c (judged_later r (outline_points E B) _ d j)))

@@ -1,6 +1,6 @@
 -- Where two chains of edges in canonical form differ.
 use Rattle.std.specs.Prelude.{◌≡◌, ℕ, List, [], ◌∷◌, ◌++◌, map, ℤ, pos, ◌-ℤ◌}
-use Rattle.std.specs.List.{AllByRecursion as All}
+use Rattle.std.specs.List.{AllByRecursion}
 use Rattle.exact.specs.Cyclotomic.{Cyclotomic}
 use Rattle.chains.specs.Counts.{Counted, tally}
 use Rattle.chains.specs.Books.{Book, tile_at}
@@ -18,7 +18,7 @@ module _ (E : Cyclotomic) (xs ys : Chain E) where
 
   -- they agree at every edge that occurs in one of them
   abbrev pub Agree : Type 0
-  Agree = All SameAt (xs ++ ys)
+  Agree = AllByRecursion SameAt (xs ++ ys)
 
   -- e is the first edge, of xs and then of ys, at which they differ, and d is the count in xs less that in ys
   pub record FirstDifference (e : Edge E) (d : ℤ) : Type 0 where
@@ -26,7 +26,7 @@ module _ (E : Cyclotomic) (xs ys : Chain E) where
     pub count : ℤ
     pub after : Chain E
     pub found : xs ++ ys ≡ before ++ record { what = e; count = count } ∷ after
-    pub earlier : All SameAt before
+    pub earlier : AllByRecursion SameAt before
     pub amount : d ≡ gap e
     pub differs : d ≡ pos 0 → ⊥
 

@@ -1,6 +1,6 @@
 -- The points of the check, in their order, and what a refusal says of them.
 use Rattle.std.specs.Prelude.{◌≡◌, ℕ, Bool, true, false, List, [], ◌∷◌, ◌++◌, map, length, Result, MatchResult}
-use Rattle.std.specs.List.{range_with_len, AllByRecursion as All}
+use Rattle.std.specs.List.{range_with_len, AllByRecursion}
 use Rattle.exact.specs.Cyclotomic.{Cyclotomic}
 use Rattle.exact.specs.JobNumbers.{Part}
 use Rattle.exact.specs.Sizes.{Within}
@@ -76,7 +76,7 @@ module _ (E : Cyclotomic) (B : Book E) where
 
   -- the children's outlines, the inflated outline, and the canonical forms of both
   pub record KeptBalance (t : ℕ) : Type 0 where
-    pub children : All (KeptPlacedOutline E B) (tile_at B t).children
+    pub children : AllByRecursion (KeptPlacedOutline E B) (tile_at B t).children
     pub corners : KeptOutline E B t
     pub inflated : KeptInflated E B (outline E B t)
     pub children_forms : KeptForms E B (outlines E B (tile_at B t).children)
@@ -95,7 +95,7 @@ module _ (E : Cyclotomic) (B : Book E) where
 
   -- every value that the check works out is on the plane
   abbrev pub WorkedOnThePlane : Type 0
-  WorkedOnThePlane = All Kept points
+  WorkedOnThePlane = AllByRecursion Kept points
 
   module _ {S : Type 0} (value : S → E.Elem) where
     -- what a fault says of the point that it is found at
@@ -114,12 +114,12 @@ module _ (E : Cyclotomic) (B : Book E) where
       pub here : Point
       pub after : List Point
       pub found : ps ≡ before ++ here ∷ after
-      pub earlier : All Passed before
+      pub earlier : AllByRecursion Passed before
       pub refuses : Refuses here f
 
     -- r says that all these points are passed, or what is wrong at the first that is not
     pub record Judged {A : Type 0} (r : Result A (BookFault S)) (ps : List Point) : Type 0 where
-      pub is : MatchResult r (λ _. All Passed ps) (FirstFault ps)
+      pub is : MatchResult r (λ _. AllByRecursion Passed ps) (FirstFault ps)
 
     -- a book that is refused is not accepted, or some value leaves the plane; want of memory says nothing of it
     abbrev pub Rejects : BookFault S → Type 0

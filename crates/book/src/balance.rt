@@ -1,6 +1,6 @@
 // The balance of a tile: its children count every edge as its inflated outline does.
 ghost use Rattle.std.specs.Prelude.{◌≡◌, map, MatchOption};
-ghost use Rattle.std.specs.List.{AllByRecursion as All};
+ghost use Rattle.std.specs.List.{AllByRecursion};
 ghost use Rattle.chains.specs.Books.{tile_at};
 ghost use Rattle.chains.specs.Edges.{canonical};
 ghost use Rattle.chains.specs.Inflation.{inflate};
@@ -30,7 +30,7 @@ fn children_outlines<R: Ring>(
 ) -> Result<Vec<Counted<R>>, ChainFault>
     ensures { Made result
         (λ v. chain_view R.exact R.value v.items ≡ outlines R.exact (book_view R.exact R.value book.now) (tile_at (book_view R.exact R.value book.now) t).children)
-        (All (KeptPlacedOutline R.exact (book_view R.exact R.value book.now)) (tile_at (book_view R.exact R.value book.now) t).children) }
+        (AllByRecursion (KeptPlacedOutline R.exact (book_view R.exact R.value book.now)) (tile_at (book_view R.exact R.value book.now) t).children) }
 {
     if t < book.tiles.len() {
         outlines_at(heap, book, book.tiles[t].children.as_slice())
@@ -47,7 +47,7 @@ fn children_forms<R: Ring>(
 ) -> Result<Vec<Counted<R>>, ChainFault>
     ensures { Made result
         (λ v. chain_view R.exact R.value v.items ≡ map (canonical R.exact (book_view R.exact R.value book.now)) (outlines R.exact (book_view R.exact R.value book.now) (tile_at (book_view R.exact R.value book.now) t).children))
-        (All (KeptPlacedOutline R.exact (book_view R.exact R.value book.now)) (tile_at (book_view R.exact R.value book.now) t).children
+        (AllByRecursion (KeptPlacedOutline R.exact (book_view R.exact R.value book.now)) (tile_at (book_view R.exact R.value book.now) t).children
         × KeptForms R.exact (book_view R.exact R.value book.now) (outlines R.exact (book_view R.exact R.value book.now) (tile_at (book_view R.exact R.value book.now) t).children)) }
 {
     let chain = children_outlines(heap, book, t)?;

@@ -2,7 +2,7 @@
 use Rattle.std.proofs.Common.{◌≡◌, ℕ, zero, suc, ◌<◌, Bool, true, false, ◌&&◌, List, [], ◌∷◌, ◌++◌, ℤ, pos, negsuc, sym, refl, ap, true≢false, arith}
 use mathlib.Core.Bool.{false≢true}
 use mathlib.Core.List.{flat_map}
-use Rattle.std.specs.List.{AllByRecursion as All}
+use Rattle.std.specs.List.{AllByRecursion}
 use Rattle.exact.specs.Cyclotomic.{Cyclotomic, CyclotomicLaws, same_number}
 use Rattle.exact.specs.JobNumbers.{Part, PlacedNumbers}
 use Rattle.exact.specs.Models.{gaussian, tenfold}
@@ -30,7 +30,7 @@ agree : (E : Cyclotomic) → Book E → Chain E → Chain E → Chain E → Bool
 agree E B xs ys [] = true
 agree E B xs ys (z ∷ zs) = same_number (net E B xs (canonical E B z).what) (net E B ys (canonical E B z).what) && agree E B xs ys zs
 
-agrees : (E : Cyclotomic) (B : Book E) (xs ys zs : Chain E) → agree E B xs ys zs ≡ true → All (λ z. net E B xs (canonical E B z).what ≡ net E B ys (canonical E B z).what) zs
+agrees : (E : Cyclotomic) (B : Book E) (xs ys zs : Chain E) → agree E B xs ys zs ≡ true → AllByRecursion (λ z. net E B xs (canonical E B z).what ≡ net E B ys (canonical E B z).what) zs
 unfolding agree
 agrees E B xs ys [] h = tt
 agrees E B xs ys (z ∷ zs) h = let p = both (same_number (net E B xs (canonical E B z).what) (net E B ys (canonical E B z).what)) (agree E B xs ys zs) h in (same_number_is _ _ p.0, agrees E B xs ys zs p.1)

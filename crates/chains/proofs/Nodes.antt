@@ -2,7 +2,7 @@
 use Rattle.std.proofs.Common.{◌≡◌, ℕ, zero, suc, ◌+◌, ◌-◌, ◌<◌, ◌≤◌, Bool, true, false, cond, ◌&&◌, ltb, leb, List, [], ◌∷◌, ◌++◌, map, length, get_or, Some, None, sym, refl, ap, ◌∙◌, arith, length-append, ltb-true, lt-ltb, le-leb, leb-true}
 use mathlib.Core.Bool.{and-eq-true_iff}
 use lib.ListN.{length-map, get_or-eq_default}
-use Rattle.std.specs.List.{range_with_len, AllByRecursion as All}
+use Rattle.std.specs.List.{range_with_len, AllByRecursion}
 use Rattle.exact.specs.Cyclotomic.{Cyclotomic}
 use Rattle.exact.specs.JobNumbers.{LabelNumbers, JobNumbers}
 use Rattle.chains.specs.Books.{Placement, placement_of, label_of, tile_of, label_at, tile_at, book_of, seeds_of}
@@ -18,7 +18,7 @@ getD_map_there f (x ∷ xs) zero d e h = refl
 getD_map_there f (x ∷ xs) (suc i) d e h = getD_map_there f xs i d e (omega arith)
 
 -- what holds of all numbers from a on, below a + n
-all_counting : (P : ℕ → Type 0) (a n : ℕ) → ((i : ℕ) → i < a + n → P i) → All P (range_with_len a n)
+all_counting : (P : ℕ → Type 0) (a n : ℕ) → ((i : ℕ) → i < a + n → P i) → AllByRecursion P (range_with_len a n)
 all_counting P a zero h = tt
 all_counting P a (suc n) h = (h a (omega arith), all_counting P (a + 1) n (λ i l. h i (omega arith)))
 
@@ -72,11 +72,11 @@ module _ (N : JobNumbers) where
   unfolding has_node leads_down
   has_seed i l = (and-eq-true_iff _ _).1 ((and-eq-true_iff _ _).1 (le-leb _ _ (omega arith), lt-ltb _ _ l), refl)
 
-  pub has_seeds : All (λ a. has_node N a ≡ true) (seeds_from N 0)
+  pub has_seeds : AllByRecursion (λ a. has_node N a ≡ true) (seeds_from N 0)
   unfolding seeds_from
   has_seeds = all_map _ seed_address (range_with_len 0 (length N.seeds - 0)) (all_counting _ 0 (length N.seeds - 0) (λ i l. has_seed i (omega arith)))
 
-  pub has_children : (a : Address) → has_node N a ≡ true → level a < N.depth → All (λ b. has_node N b ≡ true) (children_from N a 0)
+  pub has_children : (a : Address) → has_node N a ≡ true → level a < N.depth → AllByRecursion (λ b. has_node N b ≡ true) (children_from N a 0)
   unfolding children_from
   has_children a h below = all_map _ (child_address a) (range_with_len 0 (child_count N (node_tile N a) - 0)) (all_counting _ 0 (child_count N (node_tile N a) - 0) (λ i l. has_child a i h below (omega arith)))
 

@@ -1,6 +1,6 @@
 -- An edge that does not occur has no net count, so a check of those that do suffices.
 use Rattle.std.proofs.Common.{◌≡◌, Bool, true, false, cond, ◌⊎◌, [], ◌∷◌, ◌++◌, map, ℤ, pos, ◌+ℤ◌, sym, refl, ap, ◌∙◌, subst, inl, inr}
-use Rattle.std.specs.List.{AllByRecursion as All}
+use Rattle.std.specs.List.{AllByRecursion}
 use Rattle.exact.specs.Cyclotomic.{Cyclotomic, CyclotomicLaws}
 use Rattle.chains.specs.Counts.{tally}
 use Rattle.chains.specs.Books.{Book}
@@ -10,7 +10,7 @@ use Rattle.chains.proofs.Edges as edges
 
 module _ (E : Cyclotomic) (L : CyclotomicLaws E) (B : Book E) where
   -- what holds at each edge of c holds at y, which is one of them, or else y's net count is 0
-  met : (P : Edge E → Type 0) (c : Chain E) (y : Edge E) → All (λ x. P (canonical E B x).what) c → P y ⊎ (net E B c y ≡ pos 0)
+  met : (P : Edge E → Type 0) (c : Chain E) (y : Edge E) → AllByRecursion (λ x. P (canonical E B x).what) c → P y ⊎ (net E B c y ≡ pos 0)
   unfolding net tally
   met P [] y h = inr refl
   met P (x ∷ xs) y h = go (same_edge E (canonical E B x).what y) refl (met P xs y h.1)
@@ -21,7 +21,7 @@ module _ (E : Cyclotomic) (L : CyclotomicLaws E) (B : Book E) where
       go false e (inl p) = inl p
       go false e (inr z) = inr (ap (◌+ℤ◌ (pos 0)) z)
 
-  pub suffices : (c c' : Chain E) → All (λ x. net E B c (canonical E B x).what ≡ net E B c' (canonical E B x).what) (c ++ c') → SameNet E B c c'
+  pub suffices : (c c' : Chain E) → AllByRecursion (λ x. net E B c (canonical E B x).what ≡ net E B c' (canonical E B x).what) (c ++ c') → SameNet E B c c'
   suffices c c' h y = go (met agree c y (all_front _ c c' h)) (met agree c' y (all_back (λ x. agree (canonical E B x).what) c c' h))
     where
       agree : Edge E → Type 0

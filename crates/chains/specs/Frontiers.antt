@@ -3,7 +3,7 @@ use Rattle.std.specs.Prelude.{◌≡◌, ◌-◌, ◌<◌, true, List, [], ◌�
 use mathlib.Core.List.{flat_map}
 use Rattle.exact.specs.Cyclotomic.{Cyclotomic}
 use Rattle.exact.specs.JobNumbers.{JobNumbers}
-use Rattle.std.specs.List.{AllByRecursion as All}
+use Rattle.std.specs.List.{AllByRecursion}
 use Rattle.chains.specs.Books.{book_of, seeds_of}
 use Rattle.chains.specs.Edges.{Edge, Chain, net}
 use Rattle.chains.specs.Inflation.{inflated}
@@ -37,7 +37,7 @@ module _ (N : JobNumbers) where
 
   -- all nodes of a frontier are the job's
   abbrev pub OfTheJob : Frontier → Type 0
-  OfTheJob f = All (λ a. has_node N a ≡ true) f.laid × All (λ a. has_node N a ≡ true) f.aside × All (λ a. has_node N a ≡ true) f.pending
+  OfTheJob f = AllByRecursion (λ a. has_node N a ≡ true) f.laid × AllByRecursion (λ a. has_node N a ≡ true) f.aside × AllByRecursion (λ a. has_node N a ≡ true) f.pending
 
 module _ (E : Cyclotomic) (N : JobNumbers) where
   -- a node's outline

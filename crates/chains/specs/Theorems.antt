@@ -1,6 +1,6 @@
 -- The theorems, as statements over one ring: a contract holds no statement over all rings, so its function's parameter brings the ring.
 use Rattle.std.specs.Prelude.{◌≡◌, ℕ, ◌+◌, ◌<◌, ◌≤◌, cond, List, ◌∷◌, ◌++◌, map, length, ◌+ℤ◌, Some, None, nat_lt, slice_index_or}
-use Rattle.std.specs.List.{AllByRecursion as All}
+use Rattle.std.specs.List.{AllByRecursion}
 use Rattle.exact.specs.Cyclotomic.{Cyclotomic}
 use Rattle.exact.specs.Groups.{AbelianGroup}
 use Rattle.exact.specs.JobNumbers.{JobNumbers}
@@ -57,7 +57,7 @@ ChildrenBalanceTheirParent E = (B : Book E) → Accepted E B →
 -- Chains that agree at the edges that occur in them agree at every edge.
 abbrev pub AgreeingWhereEdgesOccurIsEnough : Cyclotomic → Type 0
 AgreeingWhereEdgesOccurIsEnough E = (B : Book E) (c c' : Chain E) →
-    All (λ x. net E B c (canonical E B x).what ≡ net E B c' (canonical E B x).what) (c ++ c') →
+    AllByRecursion (λ x. net E B c (canonical E B x).what ≡ net E B c' (canonical E B x).what) (c ++ c') →
     SameNet E B c c'
 
 -- Each move keeps the boundary conserved.

@@ -1,7 +1,7 @@
 -- Lists that are made one entry after another, and the exits of a `?` on the way.
 use Rattle.std.proofs.Common.{◌≡◌, ℕ, ◌+◌, ◌<◌, ◌≤◌, List, [], ◌∷◌, ◌++◌, map, length, get_or, drop, IsErrAnd, Ok, Err, Result, sym, refl, ap, ◌∙◌, subst, append_assoc, append-nil, MatchResult}
 use mathlib.Core.List.{map-append}
-use Rattle.std.specs.List.{AllByRecursion as All}
+use Rattle.std.specs.List.{AllByRecursion}
 use Rattle.std.proofs.lemmas.List.{at_drop_more, at_drop_all, drop_more, drop_all, get_or-map, length-map}
 use Rattle.std.proofs.ByRecursion.{All-get_or}
 use Rattle.rings.specs.declared.fault.RingFault.{RingFault}
@@ -42,14 +42,14 @@ module _ {X Y : Type 0} (part : X → List Y) (rest : List X → List Y) (cons :
 
 -- ---- what holds of all that a list stands for, once it holds of what is still to come
 module _ {X Y : Type 0} (f : X → Y) (P : Y → Type 0) (K : Type 0) (xs : List X) (i : ℕ) where
-  pub all_step : (x : X) → i < length xs → x ≡ get_or xs i x → P (f x) → (All P (map f (drop i xs)) → K) → All P (map f (drop (i + 1) xs)) → K
-  all_step x h is p k a = k (subst (λ l. All P (map f l)) (sym (drop_more xs i x h)) (subst (λ y. P (f y)) is p, a))
+  pub all_step : (x : X) → i < length xs → x ≡ get_or xs i x → P (f x) → (AllByRecursion P (map f (drop i xs)) → K) → AllByRecursion P (map f (drop (i + 1) xs)) → K
+  all_step x h is p k a = k (subst (λ l. AllByRecursion P (map f l)) (sym (drop_more xs i x h)) (subst (λ y. P (f y)) is p, a))
 
-  pub all_end : length xs ≤ i → (All P (map f (drop i xs)) → K) → K
-  all_end h k = k (subst (λ l. All P (map f l)) (sym (drop_all i xs h)) tt)
+  pub all_end : length xs ≤ i → (AllByRecursion P (map f (drop i xs)) → K) → K
+  all_end h k = k (subst (λ l. AllByRecursion P (map f l)) (sym (drop_all i xs h)) tt)
 
 -- what holds of all that a list stands for holds of one of them
-pub all_row : {X Y : Type 0} (f : X → Y) (P : Y → Type 0) (xs : List X) (i : ℕ) (x : X) → i < length xs → x ≡ get_or xs i x → All P (map f xs) → P (f x)
+pub all_row : {X Y : Type 0} (f : X → Y) (P : Y → Type 0) (xs : List X) (i : ℕ) (x : X) → i < length xs → x ≡ get_or xs i x → AllByRecursion P (map f xs) → P (f x)
 all_row f P xs i x h is a = subst P (get_or-map f xs i x (f x) h ∙ ap f (sym is)) (All-get_or P (map f xs) i (f x) (simp length-map h) a)
 
 -- ---- answers

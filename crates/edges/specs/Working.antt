@@ -1,6 +1,6 @@
 -- The values that the formulas make on their way, and that all of them are on the plane.
 use Rattle.std.specs.Prelude.{◌≡◌, ℕ, ◌%◌, Bool, false, cond, ◌||◌, List, [], ◌∷◌, nat_lt}
-use Rattle.std.specs.List.{AllByRecursion as All}
+use Rattle.std.specs.List.{AllByRecursion}
 use Rattle.exact.specs.Cyclotomic.{Cyclotomic, power, half}
 use Rattle.exact.specs.JobNumbers.{Step}
 use Rattle.rings.specs.Plane.{OnPlane}
@@ -18,7 +18,7 @@ KeptImage E p z = OnPlane E (cond p.mirrored (E.conj z) z)
 
 -- the start of each edge of a chain, brought there by a placement
 abbrev pub KeptPlaced : (E : Cyclotomic) → Placement E → Chain E → Type 0
-KeptPlaced E p c = All (λ x. KeptImage E p x.what.start) c
+KeptPlaced E p c = AllByRecursion (λ x. KeptImage E p x.what.start) c
 
 module _ (E : Cyclotomic) (B : Book E) where
   -- label e turned into direction j, then added to q
@@ -34,7 +34,7 @@ module _ (E : Cyclotomic) (B : Book E) where
   KeptCanonical x = as_it_stands x ≡ false → KeptAlong x.label x.direction x.start
 
   abbrev pub KeptForms : Chain E → Type 0
-  KeptForms c = All (λ x. KeptCanonical x.what) c
+  KeptForms c = AllByRecursion (λ x. KeptCanonical x.what) c
 
   -- steps one after another
   unfoldable pub KeptWalk : List Step → E.Elem → Type 0
@@ -54,4 +54,4 @@ module _ (E : Cyclotomic) (B : Book E) where
       × KeptWalk (stepped x.direction (label_at B x.label).subdivision) (E.mul B.factor x.start)
 
   abbrev pub KeptInflated : Chain E → Type 0
-  KeptInflated c = All (λ x. KeptSubdivided x.what) c
+  KeptInflated c = AllByRecursion (λ x. KeptSubdivided x.what) c

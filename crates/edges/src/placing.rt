@@ -1,6 +1,6 @@
 // Outlines of placed tiles, and the canonical forms of whole chains.
 ghost use Rattle.std.specs.Prelude.{◌≡◌, ◌++◌, map};
-ghost use Rattle.std.specs.List.{AllByRecursion as All};
+ghost use Rattle.std.specs.List.{AllByRecursion};
 ghost use Rattle.chains.specs.Edges.{canonical};
 ghost use Rattle.chains.specs.Placements.{placed, placed_outline, outlines};
 ghost use Rattle.edges.specs.Views.{chain_view, placement_view, book_view};
@@ -69,7 +69,7 @@ pub fn outlines_at<R: Ring>(
 ) -> Result<Vec<Counted<R>>, ChainFault>
     ensures { Made result
         (λ v. chain_view R.exact R.value v.items ≡ outlines R.exact (book_view R.exact R.value book.now) (map (placement_view R.exact R.value) placements.now))
-        (All (KeptPlacedOutline R.exact (book_view R.exact R.value book.now)) (map (placement_view R.exact R.value) placements.now)) }
+        (AllByRecursion (KeptPlacedOutline R.exact (book_view R.exact R.value book.now)) (map (placement_view R.exact R.value) placements.now)) }
 {
     let mut out = Vec::new(heap);
     for p in placements {

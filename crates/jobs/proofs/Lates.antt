@@ -3,7 +3,7 @@ use Rattle.std.proofs.Common.{◌≡◌, ℕ, suc, ◌+◌, ◌<◌, ◌≤◌, 
 use Rattle.jobs.specs.declared.rows.Placed.{Placed}
 use Rattle.jobs.specs.declared.rows.Tile.{Tile}
 use Rattle.jobs.specs.Rows.{placed_of, tile_of}
-use Rattle.std.specs.List.{flat_map, AllByRecursion as All}
+use Rattle.std.specs.List.{flat_map, AllByRecursion}
 use Rattle.std.proofs.lemmas.List.{length-append, length-map, drop_more}
 use Rattle.std.proofs.lemmas.Bool.Decides.{nat_tests}
 use Rattle.exact.specs.JobNumbers.{JobNumbers, LabelNumbers, TileNumbers, PlacedNumbers, Part}
@@ -50,13 +50,13 @@ late_lines m j =
     ∙ ap (or_else (first_beyond m (3 + length j.labels + length j.labels) (flat_map tile_lines j.tiles))) (none_by m seed_line (λ _. refl) _ j.seeds)
     ∙ or_else_none _
 
-none_children : (m k : ℕ) (cs : List PlacedNumbers) → All (λ (p : PlacedNumbers). p.tile < m) cs → first_beyond m k (map child_line cs) ≡ None
+none_children : (m k : ℕ) (cs : List PlacedNumbers) → AllByRecursion (λ (p : PlacedNumbers). p.tile < m) cs → first_beyond m k (map child_line cs) ≡ None
 none_children m k [] a = refl
 none_children m k (c ∷ cs) a =
     let e : leb m c.tile ≡ false = let h = a.0 in grind (arith, nat_tests) in
     ap (λ b. cond b (Some k) (first_beyond m (k + 1) (map child_line cs))) e ∙ none_children m (k + 1) cs a.1
 
-pub none_tiles : (m k : ℕ) (ts : List TileNumbers) → All (ChildrenNamed m) ts → first_beyond m k (flat_map tile_lines ts) ≡ None
+pub none_tiles : (m k : ℕ) (ts : List TileNumbers) → AllByRecursion (ChildrenNamed m) ts → first_beyond m k (flat_map tile_lines ts) ≡ None
 none_tiles m k [] a = refl
 none_tiles m k (t ∷ ts) a =
     beyond_append m k (tile_lines t) (flat_map tile_lines ts)
@@ -67,15 +67,15 @@ none_left : (o p : Option ℕ) → or_else o p ≡ None → (o ≡ None) × (p �
 none_left None p e = (refl, e)
 none_left (Some n) p e = let bad : ◌≡◌ {A = ℕ} 0 1 = cc in absurd (omega arith)
 
-children_named : (m k : ℕ) (cs : List PlacedNumbers) → first_beyond m k (map child_line cs) ≡ None → All (λ (p : PlacedNumbers). p.tile < m) cs
+children_named : (m k : ℕ) (cs : List PlacedNumbers) → first_beyond m k (map child_line cs) ≡ None → AllByRecursion (λ (p : PlacedNumbers). p.tile < m) cs
 children_named m k [] e = tt
 children_named m k (c ∷ cs) e = go (leb m c.tile) refl e (children_named m (k + 1) cs)
   where
-    go : (b : Bool) → leb m c.tile ≡ b → cond b (Some k) (first_beyond m (k + 1) (map child_line cs)) ≡ None → (first_beyond m (k + 1) (map child_line cs) ≡ None → All (λ (p : PlacedNumbers). p.tile < m) cs) → All (λ (p : PlacedNumbers). p.tile < m) (c ∷ cs)
+    go : (b : Bool) → leb m c.tile ≡ b → cond b (Some k) (first_beyond m (k + 1) (map child_line cs)) ≡ None → (first_beyond m (k + 1) (map child_line cs) ≡ None → AllByRecursion (λ (p : PlacedNumbers). p.tile < m) cs) → AllByRecursion (λ (p : PlacedNumbers). p.tile < m) (c ∷ cs)
     go true h f rest = let bad : ◌≡◌ {A = ℕ} 0 1 = cc in absurd (omega arith)
     go false h f rest = (grind (arith, nat_tests), rest f)
 
-pub tiles_named : (m k : ℕ) (ts : List TileNumbers) → first_beyond m k (flat_map tile_lines ts) ≡ None → All (ChildrenNamed m) ts
+pub tiles_named : (m k : ℕ) (ts : List TileNumbers) → first_beyond m k (flat_map tile_lines ts) ≡ None → AllByRecursion (ChildrenNamed m) ts
 tiles_named m k [] e = tt
 tiles_named m k (t ∷ ts) e =
     let h = none_left _ _ (sym (beyond_append m k (tile_lines t) (flat_map tile_lines ts)) ∙ e) in

@@ -1,6 +1,6 @@
 -- The lines of a job in range lead to it, and to nothing else.
 use Rattle.std.proofs.Common.{◌≡◌, ℕ, ◌+◌, ◌<◌, ◌≤◌, Bool, true, false, ◌⊎◌, List, [], ◌∷◌, ◌++◌, map, length, ℤ, pos, Some, None, Option, sym, refl, ap, ◌∙◌, subst, ap₂, inl, inr, ⊎_elim, append_assoc, append-nil, arith}
-use Rattle.std.specs.List.{flat_map, AllByRecursion as All}
+use Rattle.std.specs.List.{flat_map, AllByRecursion}
 use Rattle.std.proofs.lemmas.List.{length_push, length-append, length-map}
 use Rattle.exact.specs.JobNumbers.{JobNumbers, LabelNumbers, TileNumbers, PlacedNumbers, Part, Step}
 use Rattle.lines.specs.Letters.{Letter, letter_R, letter-I, letter-L, letter-S, letter-T, letter-C, letter-D, letter-P}
@@ -37,7 +37,7 @@ takes_one letter-P f zs g h (x, _, e, q) (y, _, k, w) = q ∙ ap (with_seed f) (
 then : (f h g : Front) (l : Line) (ls : List Line) → Steps f l h → Leads h ls g → Leads f (l ∷ ls) g
 then f h g l ls s k = (h, s, k)
 
-run_labels : (n d : ℕ) (fs : List ℤ) (hs ms : List Head) (rest : List Line) (g : Front) → 0 < length fs → length hs + length ms ≤ most_labels → All (HeadFits d) ms
+run_labels : (n d : ℕ) (fs : List ℤ) (hs ms : List Head) (rest : List Line) (g : Front) → 0 < length fs → length hs + length ms ≤ most_labels → AllByRecursion (HeadFits d) ms
     → Leads (whole_front n d fs (hs ++ ms) [] [] [] [] None []) rest g → Leads (whole_front n d fs hs [] [] [] [] None []) (map head_line ms ++ rest) g
 run_labels n d fs hs [] rest g some few a k = subst (λ x. Leads (whole_front n d fs x [] [] [] [] None []) rest g) (append-nil hs) k
 run_labels n d fs hs (m ∷ ms) rest g some few a k = (
@@ -46,7 +46,7 @@ run_labels n d fs hs (m ∷ ms) rest g some few a k = (
   run_labels n d fs (hs ++ m ∷ []) ms rest g some (let z = length_push hs m in omega arith) a.1 (subst (λ x. Leads (whole_front n d fs x [] [] [] [] None []) rest g) (sym (append_assoc hs (m ∷ []) ms)) k),
 )
 
-run_subdivisions : (n d : ℕ) (fs : List ℤ) (hs : List Head) (ps qs : List (List Part)) (rest : List Line) (g : Front) → length ps + length qs ≤ length hs → All (SubdivisionFits (kinds hs)) qs
+run_subdivisions : (n d : ℕ) (fs : List ℤ) (hs : List Head) (ps qs : List (List Part)) (rest : List Line) (g : Front) → length ps + length qs ≤ length hs → AllByRecursion (SubdivisionFits (kinds hs)) qs
     → Leads (whole_front n d fs hs (ps ++ qs) [] [] [] None []) rest g → Leads (whole_front n d fs hs ps [] [] [] None []) (map subdivision_line qs ++ rest) g
 run_subdivisions n d fs hs ps [] rest g few a k = subst (λ x. Leads (whole_front n d fs hs x [] [] [] None []) rest g) (append-nil ps) k
 run_subdivisions n d fs hs ps (q ∷ qs) rest g few a k = (
@@ -55,7 +55,7 @@ run_subdivisions n d fs hs ps (q ∷ qs) rest g few a k = (
   run_subdivisions n d fs hs (ps ++ q ∷ []) qs rest g (let z = length_push ps q in omega arith) a.1 (subst (λ x. Leads (whole_front n d fs hs x [] [] [] None []) rest g) (sym (append_assoc ps (q ∷ []) qs)) k),
 )
 
-run_children : (n d : ℕ) (fs : List ℤ) (hs : List Head) (ps : List (List Part)) (ts : List TileNumbers) (ss : List Step) (cs ms : List PlacedNumbers) (rest : List Line) (g : Front) → 0 < length ss → length cs + length ms ≤ most_children → All (PlacedFits n d) ms
+run_children : (n d : ℕ) (fs : List ℤ) (hs : List Head) (ps : List (List Part)) (ts : List TileNumbers) (ss : List Step) (cs ms : List PlacedNumbers) (rest : List Line) (g : Front) → 0 < length ss → length cs + length ms ≤ most_children → AllByRecursion (PlacedFits n d) ms
     → Leads (whole_front n d fs hs ps ts ss (cs ++ ms) None []) rest g → Leads (whole_front n d fs hs ps ts ss cs None []) (map child_line ms ++ rest) g
 run_children n d fs hs ps ts ss cs [] rest g some few a k = subst (λ x. Leads (whole_front n d fs hs ps ts ss x None []) rest g) (append-nil cs) k
 run_children n d fs hs ps ts ss cs (m ∷ ms) rest g some few a k = (
@@ -64,7 +64,7 @@ run_children n d fs hs ps ts ss cs (m ∷ ms) rest g some few a k = (
   run_children n d fs hs ps ts ss (cs ++ m ∷ []) ms rest g some (let z = length_push cs m in omega arith) a.1 (subst (λ x. Leads (whole_front n d fs hs ps ts ss x None []) rest g) (sym (append_assoc cs (m ∷ []) ms)) k),
 )
 
-run_seeds : (n d : ℕ) (fs : List ℤ) (hs : List Head) (ps : List (List Part)) (ts : List TileNumbers) (depth : ℕ) (cs ms : List PlacedNumbers) (g : Front) → length cs + length ms ≤ most_seeds → All (SeedFits (length ts) n d) ms
+run_seeds : (n d : ℕ) (fs : List ℤ) (hs : List Head) (ps : List (List Part)) (ts : List TileNumbers) (depth : ℕ) (cs ms : List PlacedNumbers) (g : Front) → length cs + length ms ≤ most_seeds → AllByRecursion (SeedFits (length ts) n d) ms
     → whole_front n d fs hs ps ts [] [] (Some depth) (cs ++ ms) ≡ g → Leads (whole_front n d fs hs ps ts [] [] (Some depth) cs) (map seed_line ms) g
 run_seeds n d fs hs ps ts depth cs [] g few a k = ap (whole_front n d fs hs ps ts [] [] (Some depth)) (sym (append-nil cs)) ∙ k
 run_seeds n d fs hs ps ts depth cs (m ∷ ms) g few a k = (
@@ -78,7 +78,7 @@ outline_some ks n ss f e = omega (arith, f.0)
 
 -- more tiles after an open one
 run_tiles : (n d : ℕ) (fs : List ℤ) (hs : List Head) (ps : List (List Part)) (ts : List TileNumbers) (ss : List Step) (cs : List PlacedNumbers) (ms : List TileNumbers) (depth : ℕ) (rest : List Line) (g : Front)
-    → 0 < length hs → length ps ≡ length hs → OutlineFits (kinds hs) n ss → 0 < length cs → length ts + 1 + length ms ≤ most_tiles → All (TileFits (kinds hs) n d) ms → depth ≤ most_depth
+    → 0 < length hs → length ps ≡ length hs → OutlineFits (kinds hs) n ss → 0 < length cs → length ts + 1 + length ms ≤ most_tiles → AllByRecursion (TileFits (kinds hs) n d) ms → depth ≤ most_depth
     → Leads (whole_front n d fs hs ps (ts ++ tile ss cs ∷ ms) [] [] (Some depth) []) rest g → Leads (whole_front n d fs hs ps ts ss cs None []) (flat_map tile_lines ms ++ depth_line depth ∷ rest) g
 run_tiles n d fs hs ps ts ss cs [] depth rest g h p o c few a deep k = (
   whole_front n d fs hs ps (ts ++ tile ss cs ∷ []) [] [] (Some depth) [],
@@ -96,7 +96,7 @@ run_tiles n d fs hs ps ts ss cs (m ∷ ms) depth rest g h p o c few a deep k = (
 
 -- all tiles, from the first
 run_all_tiles : (n d : ℕ) (fs : List ℤ) (hs : List Head) (ps : List (List Part)) (ts : List TileNumbers) (depth : ℕ) (rest : List Line) (g : Front)
-    → 0 < length hs → length ps ≡ length hs → 0 < length ts → length ts ≤ most_tiles → All (TileFits (kinds hs) n d) ts → depth ≤ most_depth
+    → 0 < length hs → length ps ≡ length hs → 0 < length ts → length ts ≤ most_tiles → AllByRecursion (TileFits (kinds hs) n d) ts → depth ≤ most_depth
     → Leads (whole_front n d fs hs ps ts [] [] (Some depth) []) rest g → Leads (whole_front n d fs hs ps [] [] [] None []) (flat_map tile_lines ts ++ depth_line depth ∷ rest) g
 run_all_tiles n d fs hs ps [] depth rest g h p some few a deep k = absurd (omega arith)
 run_all_tiles n d fs hs ps (m ∷ ms) depth rest g h p some few a deep k = (
@@ -126,11 +126,11 @@ head_kinds : (ls : List LabelNumbers) → kinds (map head ls) ≡ kinds_of ls
 head_kinds [] = refl
 head_kinds (l ∷ ls) = ap (λ t. l.arrowed ∷ t) (head_kinds ls)
 
-heads_fit : (ks : List Bool) (d : ℕ) (ls : List LabelNumbers) → All (LabelFits ks d) ls → All (HeadFits d) (map head ls)
+heads_fit : (ks : List Bool) (d : ℕ) (ls : List LabelNumbers) → AllByRecursion (LabelFits ks d) ls → AllByRecursion (HeadFits d) (map head ls)
 heads_fit ks d [] a = tt
 heads_fit ks d (l ∷ ls) a = (a.0.0, heads_fit ks d ls a.1)
 
-subdivisions_fit : (ks : List Bool) (d : ℕ) (ls : List LabelNumbers) → All (LabelFits ks d) ls → All (SubdivisionFits ks) (map (λ (l : LabelNumbers). l.subdivision) ls)
+subdivisions_fit : (ks : List Bool) (d : ℕ) (ls : List LabelNumbers) → AllByRecursion (LabelFits ks d) ls → AllByRecursion (SubdivisionFits ks) (map (λ (l : LabelNumbers). l.subdivision) ls)
 subdivisions_fit ks d [] a = tt
 subdivisions_fit ks d (l ∷ ls) a = (a.0.1, subdivisions_fit ks d ls a.1)
 
@@ -154,8 +154,8 @@ job_leads j s =
     let ks = head_kinds ls in
     let body = map label_line ls ++ (map (λ (l : LabelNumbers). subdivision_line l.subdivision) ls ++ (flat_map tile_lines j.tiles ++ depth_line j.depth ∷ map seed_line j.seeds)) in
     let last : Leads (whole_front j.order j.rank j.factor hs ps j.tiles [] [] (Some j.depth) []) (map seed_line j.seeds) (whole j) = run_seeds j.order j.rank j.factor hs ps j.tiles j.depth [] j.seeds (whole j) (omega (arith, s.few_seeds)) s.seeds refl in
-    let tiles = run_all_tiles j.order j.rank j.factor hs ps j.tiles j.depth (map seed_line j.seeds) (whole j) (omega (arith, s.some_labels)) (omega arith) s.some_tiles s.few_tiles (subst (λ k. All (TileFits k j.order j.rank) j.tiles) (sym ks) s.tiles) s.depth last in
-    let divided = run_subdivisions j.order j.rank j.factor hs [] ps (flat_map tile_lines j.tiles ++ depth_line j.depth ∷ map seed_line j.seeds) (whole j) (omega arith) (subst (λ k. All (SubdivisionFits k) ps) (sym ks) (subdivisions_fit _ j.rank ls s.labels)) tiles in
+    let tiles = run_all_tiles j.order j.rank j.factor hs ps j.tiles j.depth (map seed_line j.seeds) (whole j) (omega (arith, s.some_labels)) (omega arith) s.some_tiles s.few_tiles (subst (λ k. AllByRecursion (TileFits k j.order j.rank) j.tiles) (sym ks) s.tiles) s.depth last in
+    let divided = run_subdivisions j.order j.rank j.factor hs [] ps (flat_map tile_lines j.tiles ++ depth_line j.depth ∷ map seed_line j.seeds) (whole j) (omega arith) (subst (λ k. AllByRecursion (SubdivisionFits k) ps) (sym ks) (subdivisions_fit _ j.rank ls s.labels)) tiles in
     let listed = run_labels j.order j.rank j.factor [] hs (map subdivision_line ps ++ (flat_map tile_lines j.tiles ++ depth_line j.depth ∷ map seed_line j.seeds)) (whole j) (factor_some _ _ _ s.ring s.factor) (omega (arith, s.few_labels)) (heads_fit _ j.rank ls s.labels) divided in
     let e : map head_line hs ++ (map subdivision_line ps ++ (flat_map tile_lines j.tiles ++ depth_line j.depth ∷ map seed_line j.seeds)) ≡ body
     = ap₂ (λ x y. x ++ (y ++ (flat_map tile_lines j.tiles ++ depth_line j.depth ∷ map seed_line j.seeds))) (head_lines ls) (subdivision_lines ls) in (

@@ -1,6 +1,6 @@
 -- A list of rows, read one after the other from the numbers that they have.
 use Rattle.std.proofs.Common.{◌≡◌, ℕ, ◌+◌, ◌-◌, ◌*◌, ◌<◌, ◌≤◌, Bool, true, false, List, [], ◌∷◌, ◌++◌, length, get_or, take, drop, ℤ, pos, sym, refl, ap, ◌∙◌, subst, append_assoc, append-nil, arith}
-use Rattle.std.specs.List.{flat_map, AllByRecursion as All}
+use Rattle.std.specs.List.{flat_map, AllByRecursion}
 use Rattle.std.proofs.ByRecursion.{All-push}
 use Rattle.std.proofs.lemmas.List.{take_rest}
 use Rattle.exact.specs.JobNumbers.{Part, Step, PlacedNumbers}
@@ -8,9 +8,9 @@ use Rattle.jobs.specs.Spelled.{mark, part_numbers, step_numbers, placed_numbers}
 
 -- xs are read from s, and rest is left
 pub record Upto {X A : Type 0} (enc : X → List A) (P : X → Type 0) (s : List A) (xs : List X) (rest : List A) : Type 0 where
-  pub sound : All P xs
+  pub sound : AllByRecursion P xs
   pub whole : s ≡ flat_map enc xs ++ rest
-  pub back : (all : List X) → All P all → s ≡ flat_map enc all → (ys : List X) × (all ≡ xs ++ ys) × All P ys × (rest ≡ flat_map enc ys)
+  pub back : (all : List X) → AllByRecursion P all → s ≡ flat_map enc all → (ys : List X) × (all ≡ xs ++ ys) × AllByRecursion P ys × (rest ≡ flat_map enc ys)
 
 module _ {X A : Type 0} (enc : X → List A) (P : X → Type 0) (s : List A) where
   pub upto_none : Upto enc P s [] s
@@ -32,14 +32,14 @@ module _ {X A : Type 0} (enc : X → List A) (P : X → Type 0) (s : List A) whe
     back = λ all h q. let b = u.back all h q in go b.0 b.1 b.2 b.3;
   }
     where
-      go : {all : List X} (ys : List X) → all ≡ xs ++ ys → All P ys → rest ≡ flat_map enc ys → (zs : List X) × (all ≡ (xs ++ x ∷ []) ++ zs) × All P zs × (more ≡ flat_map enc zs)
+      go : {all : List X} (ys : List X) → all ≡ xs ++ ys → AllByRecursion P ys → rest ≡ flat_map enc ys → (zs : List X) × (all ≡ (xs ++ x ∷ []) ++ zs) × AllByRecursion P zs × (more ≡ flat_map enc zs)
       go [] a h q = let z = ap length q in absurd (omega arith)
       go (y ∷ ys) a h q = let v = unique y (flat_map enc ys) q in (ys, a ∙ ap (λ t. xs ++ t ∷ ys) (sym v.0) ∙ sym (append_assoc xs (x ∷ []) ys), h.1, v.1)
 
-  pub upto_stuck : (xs : List X) (rest : List A) → Upto enc P s xs rest → 0 < length rest → ((y : X) (r : List A) → P y → rest ≡ enc y ++ r → ⊥) → (all : List X) → All P all → s ≡ flat_map enc all → ⊥
+  pub upto_stuck : (xs : List X) (rest : List A) → Upto enc P s xs rest → 0 < length rest → ((y : X) (r : List A) → P y → rest ≡ enc y ++ r → ⊥) → (all : List X) → AllByRecursion P all → s ≡ flat_map enc all → ⊥
   upto_stuck xs rest u some none all h q = let b = u.back all h q in go b.0 b.2 b.3
     where
-      go : (ys : List X) → All P ys → rest ≡ flat_map enc ys → ⊥
+      go : (ys : List X) → AllByRecursion P ys → rest ≡ flat_map enc ys → ⊥
       go [] g e = let z = ap length e in omega arith
       go (y ∷ ys) g e = none y (flat_map enc ys) g.0 e
 

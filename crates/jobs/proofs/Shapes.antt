@@ -1,6 +1,6 @@
 -- The fronts that lines can lead to, and the lines that lead there.
 use Rattle.std.proofs.Common.{◌≡◌, ℕ, ◌+◌, ◌<◌, ◌≤◌, Bool, true, false, ◌⊎◌, List, [], ◌∷◌, ◌++◌, map, length, ℤ, pos, Some, None, Option, sym, refl, ap, ◌∙◌, subst, ap₂, inl, inr, ⊎_elim, append_assoc, append-nil, arith}
-use Rattle.std.specs.List.{flat_map, AllByRecursion as All}
+use Rattle.std.specs.List.{flat_map, AllByRecursion}
 use Rattle.std.proofs.ByRecursion.{All-push}
 use Rattle.std.proofs.lemmas.List.{length_push, length-append, map_push, map-append}
 use Rattle.std.proofs.lemmas.Bool.{false≢true}
@@ -62,9 +62,9 @@ pub record Base (n d : ℕ) (fs : List ℤ) (hs : List Head) (pss : List (List P
   pub ring : Ring n d
   pub factor : Element d fs
   pub few : length hs ≤ most_labels
-  pub heads : All (HeadFits d) hs
+  pub heads : AllByRecursion (HeadFits d) hs
   pub paired : length pss ≤ length hs
-  pub subdivisions : All (SubdivisionFits (kinds hs)) pss
+  pub subdivisions : AllByRecursion (SubdivisionFits (kinds hs)) pss
 
 pub record Divided (hs : List Head) (pss : List (List Part)) : Type 0 where
   pub some : 0 < length hs
@@ -72,18 +72,18 @@ pub record Divided (hs : List Head) (pss : List (List Part)) : Type 0 where
 
 pub record Open (n d : ℕ) (hs : List Head) (ts : List TileNumbers) (ss : List Step) (cs : List PlacedNumbers) : Type 0 where
   pub few : length ts < most_tiles
-  pub tiles : All (TileFits (kinds hs) n d) ts
+  pub tiles : AllByRecursion (TileFits (kinds hs) n d) ts
   pub outline : OutlineFits (kinds hs) n ss
   pub room : length cs ≤ most_children
-  pub children : All (PlacedFits n d) cs
+  pub children : AllByRecursion (PlacedFits n d) cs
 
 pub record Shut (n d : ℕ) (hs : List Head) (ts : List TileNumbers) (depth : ℕ) (ps : List PlacedNumbers) : Type 0 where
   pub some : 0 < length ts
   pub few : length ts ≤ most_tiles
-  pub tiles : All (TileFits (kinds hs) n d) ts
+  pub tiles : AllByRecursion (TileFits (kinds hs) n d) ts
   pub deep : depth ≤ most_depth
   pub room : length ps ≤ most_seeds
-  pub seeds : All (SeedFits (length ts) n d) ps
+  pub seeds : AllByRecursion (SeedFits (length ts) n d) ps
 
 abbrev pub Fine : Shape → Type 0
 Fine start = Unit {0}
@@ -172,7 +172,7 @@ no_label hs pss v e = omega (arith, v.some, v.each)
 no_subdivision : (hs : List Head) (pss : List (List Part)) → Divided hs pss → length pss < length hs → ⊥
 no_subdivision hs pss v e = omega (arith, v.each)
 
-tile_more : (n d : ℕ) (hs : List Head) (ts : List TileNumbers) (ss : List Step) (cs : List PlacedNumbers) → Open n d hs ts ss cs → 0 < length cs → All (TileFits (kinds hs) n d) (ts ++ tile ss cs ∷ [])
+tile_more : (n d : ℕ) (hs : List Head) (ts : List TileNumbers) (ss : List Step) (cs : List PlacedNumbers) → Open n d hs ts ss cs → 0 < length cs → AllByRecursion (TileFits (kinds hs) n d) (ts ++ tile ss cs ∷ [])
 tile_more n d hs ts ss cs o some = All-push (TileFits (kinds hs) n d) ts (tile ss cs) o.tiles (o.outline, (some, o.room, o.children))
 
 after_tiled : (n d : ℕ) (fs : List ℤ) (hs : List Head) (pss : List (List Part)) (ts : List TileNumbers) (ss : List Step) (cs : List PlacedNumbers) → Base n d fs hs pss → Divided hs pss → Open n d hs ts ss cs
@@ -264,7 +264,7 @@ labelled_length [] (ps ∷ pss) e = absurd (omega arith)
 labelled_length (h ∷ hs) [] e = absurd (omega arith)
 labelled_length (h ∷ hs) (ps ∷ pss) e = let k = labelled_length hs pss (omega arith) in omega arith
 
-labelled_fit : (ks : List Bool) (d : ℕ) (hs : List Head) (pss : List (List Part)) → length pss ≡ length hs → All (HeadFits d) hs → All (SubdivisionFits ks) pss → All (LabelFits ks d) (labelled hs pss)
+labelled_fit : (ks : List Bool) (d : ℕ) (hs : List Head) (pss : List (List Part)) → length pss ≡ length hs → AllByRecursion (HeadFits d) hs → AllByRecursion (SubdivisionFits ks) pss → AllByRecursion (LabelFits ks d) (labelled hs pss)
 labelled_fit ks d [] pss e a b = tt
 labelled_fit ks d (h ∷ hs) [] e a b = absurd (omega arith)
 labelled_fit ks d (h ∷ hs) (ps ∷ pss) e a b = ((a.0, b.0), labelled_fit ks d hs pss (omega arith) a.1 b.1)
@@ -290,10 +290,10 @@ end_shape (ended n d fs hs pss ts depth ps) (b, v, o) k =
         factor = b.factor;
         some_labels = omega (arith, v.some);
         few_labels = omega (arith, b.few);
-        labels = subst (λ ks. All (LabelFits ks d) (labelled hs pss)) (sym e) (labelled_fit (kinds hs) d hs pss v.each b.heads b.subdivisions);
+        labels = subst (λ ks. AllByRecursion (LabelFits ks d) (labelled hs pss)) (sym e) (labelled_fit (kinds hs) d hs pss v.each b.heads b.subdivisions);
         some_tiles = o.some;
         few_tiles = o.few;
-        tiles = subst (λ ks. All (TileFits ks n d) ts) (sym e) o.tiles;
+        tiles = subst (λ ks. AllByRecursion (TileFits ks n d) ts) (sym e) o.tiles;
         depth = o.deep;
         some_seeds = k;
         few_seeds = o.room;

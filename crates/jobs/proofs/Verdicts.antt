@@ -1,6 +1,6 @@
 -- A text has one verdict: one job in range, or one refusal.
 use Rattle.std.proofs.Common.{◌≡◌, ℕ, ◌+◌, ◌<◌, ◌≤◌, Bool, true, false, ◌⊎◌, List, [], ◌∷◌, ◌++◌, map, length, ℤ, pos, Some, None, Option, sym, refl, ap, ◌∙◌, subst, ap₂, inl, inr, ⊎_elim, append_assoc, append-nil, arith}
-use Rattle.std.specs.List.{AllByRecursion as All}
+use Rattle.std.specs.List.{AllByRecursion}
 use Rattle.std.proofs.ByRecursion.{All-append}
 use Rattle.exact.specs.JobNumbers.{JobNumbers}
 use Rattle.lines.specs.Letters.{Letter}
@@ -26,13 +26,13 @@ pub record Further (bs cs : List Line) (f g : Front) (r s : List ℕ) : Type 0 w
   pub more : List Line
   pub lines : cs ≡ bs ++ more
   pub rest : r ≡ text more ++ s
-  pub spelt : All WellSpelt more
+  pub spelt : AllByRecursion WellSpelt more
   pub leads : Leads f more g
 
 further_cons : (b c : Line) (bs cs : List Line) (f g : Front) (r s : List ℕ) → b ≡ c → Further bs cs f g r s → Further (b ∷ bs) (c ∷ cs) f g r s
 further_cons b c bs cs f g r s e u = record { more = u.more; lines = (λ i. sym e i ∷ u.lines i); rest = u.rest; spelt = u.spelt; leads = u.leads }
 
-compared : (bs cs : List Line) (o f g : Front) (r s : List ℕ) → All WellSpelt bs → All WellSpelt cs → text bs ++ r ≡ text cs ++ s → Leads o bs f → Leads o cs g → Further bs cs f g r s ⊎ Further cs bs g f s r
+compared : (bs cs : List Line) (o f g : Front) (r s : List ℕ) → AllByRecursion WellSpelt bs → AllByRecursion WellSpelt cs → text bs ++ r ≡ text cs ++ s → Leads o bs f → Leads o cs g → Further bs cs f g r s ⊎ Further cs bs g f s r
 compared [] cs o f g r s p q e k l = inl (record { more = cs; lines = refl; rest = e; spelt = q; leads = subst (λ x. Leads x cs g) k l })
 compared (b ∷ bs) [] o f g r s p q e k l = inr (record { more = b ∷ bs; lines = refl; rest = sym e; spelt = p; leads = subst (λ x. Leads x (b ∷ bs) f) l k })
 compared (b ∷ bs) (c ∷ cs) o f g r s p q e (h, k, m) (h', k', m') =
@@ -45,7 +45,7 @@ compared (b ∷ bs) (c ∷ cs) o f g r s p q e (h, k, m) (h', k', m') =
 ends_here : (bs cs : List Line) (f g : Front) (r s : List ℕ) (u : Further bs cs f g r s) → Stuck f r → (bs ≡ cs) × (f ≡ g) × (r ≡ s)
 ends_here bs cs f g r s u k = go u.more u.lines u.rest u.spelt u.leads
   where
-    go : (more : List Line) → cs ≡ bs ++ more → r ≡ text more ++ s → All WellSpelt more → Leads f more g → (bs ≡ cs) × (f ≡ g) × (r ≡ s)
+    go : (more : List Line) → cs ≡ bs ++ more → r ≡ text more ++ s → AllByRecursion WellSpelt more → Leads f more g → (bs ≡ cs) × (f ≡ g) × (r ≡ s)
     go [] e q p l = (sym (e ∙ append-nil bs), l, q)
     go (m ∷ more) e q p (h, w, l) = absurd (k m.letter m.numbers (text more ++ s) h (subst (λ t. FirstLine t m.letter m.numbers (text more ++ s)) (sym q) (first_of m more s p.0)) w.0 w.1)
 
@@ -109,7 +109,7 @@ refused_one t n k n' k' (stopped l bs f r x w) (stopped l' cs g s y v) =
     why_one bs f r n k n' k' w (why_at bs cs f g r s n' k' (one_stop t bs cs f g r s x (why_stuck bs f r n k w) y (why_stuck cs g s n' k' v)) v)
 
 -- a job's own text, read to its end
-pub job_at : (t : List ℕ) (j : JobNumbers) → Shaped j → All WellSpelt (lines_of j) → t ≡ spelled j → At t (lines_of j) (whole j) []
+pub job_at : (t : List ℕ) (j : JobNumbers) → Shaped j → AllByRecursion WellSpelt (lines_of j) → t ≡ spelled j → At t (lines_of j) (whole j) []
 job_at t j s w e = record { whole = e ∙ sym (append-nil _); spelt = w; leads = job_leads j s }
 
 stuck_end : (f : Front) → Stuck f []
@@ -125,14 +125,14 @@ why_not j i n k (late _ _ _ h) =
     let bad : ◌≡◌ {A = ℕ} 0 1 = cc in omega arith
 
 -- the text of a job in range is not refused
-pub job_accepted : (t : List ℕ) (j : JobNumbers) → InRange j → All WellSpelt (lines_of j) → length t ≤ most_bytes → t ≡ spelled j → (n k : ℕ) → Refused t n k → ⊥
+pub job_accepted : (t : List ℕ) (j : JobNumbers) → InRange j → AllByRecursion WellSpelt (lines_of j) → length t ≤ most_bytes → t ≡ spelled j → (n k : ℕ) → Refused t n k → ⊥
 job_accepted t j i w l e n k (overlong o _ _) = omega arith
 job_accepted t j i w l e n k (stopped _ bs f r x v) =
     let u = one_stop t (lines_of j) bs (whole j) f [] r (job_at t j i.shaped w e) (stuck_end (whole j)) x (why_stuck bs f r n k v) in
     why_not j i n k (why_at (lines_of j) bs (whole j) f [] r n k u v)
 
 -- one job to a text
-pub job_one : (t : List ℕ) (i j : JobNumbers) → Shaped i → Shaped j → All WellSpelt (lines_of i) → All WellSpelt (lines_of j) → t ≡ spelled i → t ≡ spelled j → i ≡ j
+pub job_one : (t : List ℕ) (i j : JobNumbers) → Shaped i → Shaped j → AllByRecursion WellSpelt (lines_of i) → AllByRecursion WellSpelt (lines_of j) → t ≡ spelled i → t ≡ spelled j → i ≡ j
 job_one t i j p q v w d e =
     let u = one_stop t (lines_of i) (lines_of j) (whole i) (whole j) [] [] (job_at t i p v d) (stuck_end (whole i)) (job_at t j q w e) (stuck_end (whole j)) in
     sym (job_whole i) ∙ ap job_of u.1 ∙ job_whole j

@@ -1,6 +1,6 @@
 -- The numbers of a job in range are short, and so is its text.
 use Rattle.std.proofs.Common.{◌≡◌, ℕ, suc, ◌+◌, ◌*◌, ◌^◌, ◌<◌, ◌≤◌, Bool, true, false, ◌⊎◌, List, [], ◌∷◌, ◌++◌, map, length, ℤ, pos, negsuc, nat_abs, decimal, sym, refl, ap, ◌∙◌, subst, inl, inr, ⊎_elim, append_assoc, append-nil, mul-suc, arith}
-use Rattle.std.specs.List.{flat_map, AllByRecursion as All}
+use Rattle.std.specs.List.{flat_map, AllByRecursion}
 use Rattle.std.proofs.lemmas.Fmt.{length-decimal-le}
 use Rattle.std.proofs.ByRecursion.{All-append, All-map, All-weaker}
 use Rattle.std.proofs.lemmas.List.{length-append, length-map}
@@ -21,7 +21,7 @@ length_word : (z : ℤ) → Tiny z → length (word z) ≤ 4
 length_word (pos n) t = let h = length-decimal-le 2 n (omega arith) (omega arith) (omega arith) in omega arith
 length_word (negsuc n) t = let h = length-decimal-le 2 (suc n) (omega arith) (omega arith) (omega arith) in omega arith
 
-length_words : (zs : List ℤ) → All Tiny zs → length (flat_map word zs) ≤ 4 * length zs
+length_words : (zs : List ℤ) → AllByRecursion Tiny zs → length (flat_map word zs) ≤ 4 * length zs
 length_words [] a = omega arith
 length_words (z ∷ zs) a =
     let h = length_word z a.0 in
@@ -31,7 +31,7 @@ length_words (z ∷ zs) a =
 
 -- a line of at most k numbers, all of them tiny
 pub record Within (k : ℕ) (l : Line) : Type 0 where
-  pub tiny : All Tiny l.numbers
+  pub tiny : AllByRecursion Tiny l.numbers
   pub few : length l.numbers ≤ k
 
 length_line : (k : ℕ) (l : Line) → Within k l → length (spelt l.letter l.numbers) ≤ 2 + 4 * k
@@ -48,7 +48,7 @@ length_text (l ∷ ls) ms =
     let m = length-append (spelt l.letter l.numbers) (text ls) in
     omega arith
 
-length_all : (k b : ℕ) (ls : List Line) → 2 + 4 * k ≤ b → All (Within k) ls → length (text ls) ≤ b * length ls
+length_all : (k b : ℕ) (ls : List Line) → 2 + 4 * k ≤ b → AllByRecursion (Within k) ls → length (text ls) ≤ b * length ls
 length_all k b [] h a = omega arith
 length_all k b (l ∷ ls) h a =
     let n = length-append (spelt l.letter l.numbers) (text ls) in
@@ -62,14 +62,14 @@ tiny_mark : (b : Bool) → Tiny (mark b)
 tiny_mark true = omega arith
 tiny_mark false = omega arith
 
-tiny_element : (zs : List ℤ) → All Coefficient zs → All Tiny zs
+tiny_element : (zs : List ℤ) → AllByRecursion Coefficient zs → AllByRecursion Tiny zs
 tiny_element zs a = All-weaker Coefficient Tiny (λ z h. omega arith) zs a
 
-tiny_parts : (ks : List Bool) (ps : List Part) → length ks ≤ 8 → All (PartFits ks) ps → All Tiny (flat_map part_numbers ps)
+tiny_parts : (ks : List Bool) (ps : List Part) → length ks ≤ 8 → AllByRecursion (PartFits ks) ps → AllByRecursion Tiny (flat_map part_numbers ps)
 tiny_parts ks [] h a = tt
 tiny_parts ks (p ∷ ps) h a = (omega (arith, a.0.0), (tiny_mark p.forward, tiny_parts ks ps h a.1))
 
-tiny_steps : (ks : List Bool) (n : ℕ) (ss : List Step) → length ks ≤ 8 → n ≤ 10 → All (StepFits ks n) ss → All Tiny (flat_map step_numbers ss)
+tiny_steps : (ks : List Bool) (n : ℕ) (ss : List Step) → length ks ≤ 8 → n ≤ 10 → AllByRecursion (StepFits ks n) ss → AllByRecursion Tiny (flat_map step_numbers ss)
 tiny_steps ks n [] h m a = tt
 tiny_steps ks n (s ∷ ss) h m a = (omega (arith, a.0.0.0), (tiny_mark s.forward, (omega (arith, a.0.1), tiny_steps ks n ss h m a.1)))
 
@@ -79,34 +79,34 @@ order_few n d r = omega arith
 rank_few : (n d : ℕ) → Ring n d → d ≤ 4
 rank_few n d r = omega arith
 
-placed_within : (n d : ℕ) (p : PlacedNumbers) → Ring n d → p.tile < 8 → PlacedFits n d p → All Tiny (placed_numbers p) × (length (placed_numbers p) ≤ 7)
+placed_within : (n d : ℕ) (p : PlacedNumbers) → Ring n d → p.tile < 8 → PlacedFits n d p → AllByRecursion Tiny (placed_numbers p) × (length (placed_numbers p) ≤ 7)
 placed_within n d p r t f =
     let m = order_few n d r in
     let k = rank_few n d r in
     ((omega arith, (omega (arith, f.0), (tiny_mark p.mirrored, tiny_element p.place f.1.1))), omega (arith, f.1.0))
 
-children_within : (n d m : ℕ) (cs : List PlacedNumbers) → Ring n d → m ≤ 8 → All (PlacedFits n d) cs → All (λ (p : PlacedNumbers). p.tile < m) cs → All (Within 7) (map child_line cs)
+children_within : (n d m : ℕ) (cs : List PlacedNumbers) → Ring n d → m ≤ 8 → AllByRecursion (PlacedFits n d) cs → AllByRecursion (λ (p : PlacedNumbers). p.tile < m) cs → AllByRecursion (Within 7) (map child_line cs)
 children_within n d m [] r l a b = tt
 children_within n d m (c ∷ cs) r l a b = let w = placed_within n d c r (omega (arith, b.0)) a.0 in (record { tiny = w.0; few = w.1 }, children_within n d m cs r l a.1 b.1)
 
-seeds_within : (n d m : ℕ) (cs : List PlacedNumbers) → Ring n d → m ≤ 8 → All (SeedFits m n d) cs → All (Within 7) (map seed_line cs)
+seeds_within : (n d m : ℕ) (cs : List PlacedNumbers) → Ring n d → m ≤ 8 → AllByRecursion (SeedFits m n d) cs → AllByRecursion (Within 7) (map seed_line cs)
 seeds_within n d m [] r l a = tt
 seeds_within n d m (c ∷ cs) r l a = let w = placed_within n d c r (omega (arith, a.0.0)) a.0.1 in (record { tiny = w.0; few = w.1 }, seeds_within n d m cs r l a.1)
 
 outline_within : (ks : List Bool) (n : ℕ) (ss : List Step) → length ks ≤ 8 → n ≤ 10 → OutlineFits ks n ss → Within 36 (outline_line ss)
 outline_within ks n ss h m f = record { tiny = tiny_steps ks n ss h m f.2; few = (let e = length_steps ss in omega (arith, f.1)) }
 
-labels_within : (ks : List Bool) (n d : ℕ) (ls : List LabelNumbers) → Ring n d → All (LabelFits ks d) ls → All (Within 5) (map label_line ls)
+labels_within : (ks : List Bool) (n d : ℕ) (ls : List LabelNumbers) → Ring n d → AllByRecursion (LabelFits ks d) ls → AllByRecursion (Within 5) (map label_line ls)
 labels_within ks n d [] r a = tt
 labels_within ks n d (l ∷ ls) r a = let k = rank_few n d r in (record { tiny = (tiny_mark l.arrowed, tiny_element l.length a.0.0.1); few = omega (arith, a.0.0.0) }, labels_within ks n d ls r a.1)
 
-subdivisions_within : (ks : List Bool) (d : ℕ) (ls : List LabelNumbers) → length ks ≤ 8 → All (LabelFits ks d) ls → All (Within 16) (map (λ (l : LabelNumbers). subdivision_line l.subdivision) ls)
+subdivisions_within : (ks : List Bool) (d : ℕ) (ls : List LabelNumbers) → length ks ≤ 8 → AllByRecursion (LabelFits ks d) ls → AllByRecursion (Within 16) (map (λ (l : LabelNumbers). subdivision_line l.subdivision) ls)
 subdivisions_within ks d [] h a = tt
 subdivisions_within ks d (l ∷ ls) h a = (record { tiny = tiny_parts ks l.subdivision h a.0.1.2; few = (let e = length_parts l.subdivision in omega (arith, a.0.1.1)) }, subdivisions_within ks d ls h a.1)
 
 -- a tile's lines
 pub record TileWithin (ls : List Line) : Type 0 where
-  pub lines : All (Within 36) ls
+  pub lines : AllByRecursion (Within 36) ls
   pub bytes : length (text ls) ≤ 626
 
 loose : (l : Line) → Within 7 l → Within 36 l
@@ -127,10 +127,10 @@ tile_within ks n d m t h l r f c =
     }
 
 pub record TilesWithin (ls : List Line) (n : ℕ) : Type 0 where
-  pub lines : All (Within 36) ls
+  pub lines : AllByRecursion (Within 36) ls
   pub bytes : length (text ls) ≤ 626 * n
 
-tiles_within : (ks : List Bool) (n d m : ℕ) (ts : List TileNumbers) → length ks ≤ 8 → m ≤ 8 → Ring n d → All (TileFits ks n d) ts → All (ChildrenNamed m) ts → TilesWithin (flat_map tile_lines ts) (length ts)
+tiles_within : (ks : List Bool) (n d m : ℕ) (ts : List TileNumbers) → length ks ≤ 8 → m ≤ 8 → Ring n d → AllByRecursion (TileFits ks n d) ts → AllByRecursion (ChildrenNamed m) ts → TilesWithin (flat_map tile_lines ts) (length ts)
 tiles_within ks n d m [] h l r a c = record { lines = tt; bytes = omega arith }
 tiles_within ks n d m (t ∷ ts) h l r a c =
     let u = tile_within ks n d m t h l r a.0 c.0 in
@@ -141,7 +141,7 @@ tiles_within ks n d m (t ∷ ts) h l r a c =
     }
 
 pub record Fitting (j : JobNumbers) : Type 0 where
-  pub spelt : All WellSpelt (lines_of j)
+  pub spelt : AllByRecursion WellSpelt (lines_of j)
   pub short : length (spelled j) ≤ most_bytes
 
 short_of : (k : ℕ) (l : Line) → Within k l → WellSpelt l

@@ -1,6 +1,6 @@
 -- When a text is refused, with which number and at which line.
 use Rattle.std.specs.Prelude.{◌≡◌, ℕ, suc, ◌+◌, ◌<◌, ◌≤◌, Bool, true, false, cond, ◌⊎◌, List, [], ◌∷◌, ◌++◌, length, ℤ, pos, negsuc, Some, None, Option, nat_le}
-use Rattle.std.specs.List.{AllByRecursion as All}
+use Rattle.std.specs.List.{AllByRecursion}
 use Rattle.lines.specs.Letters.{Letter, letter_R, letter-I, letter-L, letter-S, letter-T, letter-C, letter-D, letter-P}
 use Rattle.lines.specs.Lines.{Line, text, WellSpelt, FirstLine}
 use Rattle.jobs.specs.Limits.{most_bytes}
@@ -9,7 +9,7 @@ use Rattle.jobs.specs.Fronts.{Front, nothing, Place, Complete, Takes, Leads}
 -- the first lines of t are well spelt, stand where they may and say f; rest is what follows them
 pub record At (t : List ℕ) (before : List Line) (f : Front) (rest : List ℕ) : Type 0 where
   pub whole : t ≡ text before ++ rest
-  pub spelt : All WellSpelt before
+  pub spelt : AllByRecursion WellSpelt before
   pub leads : Leads nothing before f
 
 -- the line is of a child that names none of so many tiles

@@ -1,6 +1,6 @@
 -- A well spelt line at the front of a text: it is the only one, and how it is told.
 use Rattle.std.proofs.Common.{◌≡◌, ℕ, suc, ◌+◌, ◌^◌, ◌<◌, ◌≤◌, cond, eqb, List, [], ◌∷◌, ◌++◌, length, get_or, take, ℤ, pos, negsuc, nat_abs, decimal, sym, refl, ap, ◌∙◌, subst, inl, inr, ⊎_elim, append_assoc, append-nil, arith}
-use Rattle.std.specs.List.{flat_map, AllByRecursion as All}
+use Rattle.std.specs.List.{flat_map, AllByRecursion}
 use Rattle.std.proofs.lemmas.Fmt.{digits_decimal}
 use Rattle.std.proofs.ByRecursion.{All-append, All-from_get_or}
 use Rattle.std.proofs.lemmas.List.{length-append}
@@ -13,7 +13,7 @@ use Rattle.lines.proofs.Sequence.{words_first}
 
 -- no byte ends a line
 abbrev pub Clear : List ℕ → Type 0
-Clear = All (λ b. b ≡ 10 → ⊥)
+Clear = AllByRecursion (λ b. b ≡ 10 → ⊥)
 
 clear_inside : (bs : List ℕ) → Inside bs → Clear bs
 clear_inside bs h = All-from_get_or (λ b. b ≡ 10 → ⊥) bs 0 h
@@ -31,7 +31,7 @@ clear_word : (z : ℤ) → Short z → Clear (word z)
 clear_word (pos n) s = ((λ e. omega arith), clear_decimal n s)
 clear_word (negsuc n) s = ((λ e. omega arith), ((λ e. omega arith), clear_decimal (suc n) s))
 
-pub clear_words : (zs : List ℤ) → All Short zs → Clear (flat_map word zs)
+pub clear_words : (zs : List ℤ) → AllByRecursion Short zs → Clear (flat_map word zs)
 clear_words [] s = tt
 clear_words (z ∷ zs) s = All-append (λ b. b ≡ 10 → ⊥) (word z) (flat_map word zs) (clear_word z s.0) (clear_words zs s.1)
 
@@ -84,11 +84,11 @@ spelt_from t line more k zs c e w = record {
   whole = c.whole ∙ ap (λ l. l ++ 10 ∷ more) (e ∙ ap (λ l. byte (letter k) ∷ l) w.whole) ∙ sym (ap (λ l. byte (letter k) ∷ l) (append_assoc (flat_map word zs) (10 ∷ []) more));
 }
 
-pub no_words : (line : List ℕ) (k : Kind) (a : Letter) (zs : List ℤ) → line ≡ byte (letter k) ∷ after k → ((ys : List ℤ) → Words (after k) ys → ⊥) → All Short zs → line ≡ byte a ∷ flat_map word zs → ⊥
+pub no_words : (line : List ℕ) (k : Kind) (a : Letter) (zs : List ℤ) → line ≡ byte (letter k) ∷ after k → ((ys : List ℤ) → Words (after k) ys → ⊥) → AllByRecursion Short zs → line ≡ byte a ∷ flat_map word zs → ⊥
 no_words line k a zs e none s h = none zs (record { short = s; whole = cc })
 
 -- a text begins with at most one line
-words_unique : (zs zs' : List ℤ) → All Short zs → All Short zs' → flat_map word zs ≡ flat_map word zs' → zs ≡ zs'
+words_unique : (zs zs' : List ℤ) → AllByRecursion Short zs → AllByRecursion Short zs' → flat_map word zs ≡ flat_map word zs' → zs ≡ zs'
 words_unique [] [] s s' e = refl
 words_unique [] (z ∷ zs) s s' e = let bad : ◌≡◌ {A = ℕ} 0 1 = cc in absurd (omega arith)
 words_unique (z ∷ zs) [] s s' e = let bad : ◌≡◌ {A = ℕ} 0 1 = cc in absurd (omega arith)

@@ -1,6 +1,6 @@
 -- A text as lines: each a letter with its numbers, ended by the byte 10.
 use Rattle.std.specs.Prelude.{◌≡◌, ℕ, ◌<◌, List, [], ◌∷◌, ◌++◌, length, ℤ, ◌≢◌, slice_index}
-use Rattle.std.specs.List.{flat_map, AllByRecursion as All}
+use Rattle.std.specs.List.{flat_map, AllByRecursion}
 use Rattle.lines.specs.Letters.{Letter, byte}
 use Rattle.lines.specs.Spelling.{Short, word}
 
@@ -30,9 +30,9 @@ text ls = flat_map (λ l. spelt l.letter l.numbers) ls
 
 -- each number has at most seven digits
 abbrev pub WellSpelt : Line → Type 0
-WellSpelt l = All Short l.numbers
+WellSpelt l = AllByRecursion Short l.numbers
 
 -- the text begins with a well spelt line: its letter, its numbers, and what follows it
 pub record FirstLine (t : List ℕ) (a : Letter) (zs : List ℤ) (rest : List ℕ) : Type 0 where
-  pub short : All Short zs
+  pub short : AllByRecursion Short zs
   pub whole : t ≡ spelt a zs ++ rest

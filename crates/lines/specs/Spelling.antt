@@ -1,6 +1,6 @@
 -- How the numbers of a line are spelt.
 use Rattle.std.specs.Prelude.{◌≡◌, ℕ, ◌^◌, ◌<◌, ◌≤◌, List, [], ◌∷◌, ◌++◌, length, ℤ, decimal, slice_index, unsigned_abs}
-use Rattle.std.specs.List.{flat_map, AllByRecursion as All}
+use Rattle.std.specs.List.{flat_map, AllByRecursion}
 use Rattle.std.specs.Int.{IsInRange}
 use Rattle.std.specs.Fmt.{signed_decimal}
 
@@ -38,5 +38,5 @@ DigitsTo bs n = (i : ℕ) → i < n → IsInRange 48 57 (slice_index bs i)
 
 -- bs spells the numbers zs, each after its space, and nothing else
 pub record Words (bs : List ℕ) (zs : List ℤ) : Type 0 where
-  pub short : All Short zs
+  pub short : AllByRecursion Short zs
   pub whole : bs ≡ flat_map word zs

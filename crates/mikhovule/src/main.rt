@@ -8,6 +8,7 @@ use faults::TextFault;
 use jobs::reading::read;
 use refusals::Fault;
 use std::io::Read;
+use std::process::ExitCode;
 use words::tell;
 
 // One byte more than a text may have is enough to refuse it.
@@ -21,24 +22,24 @@ fn input(rt: &HostRuntime) -> anyhow::Result<Vec<u8>> {
     Ok(text)
 }
 
-fn refused(rt: &HostRuntime, fault: TextFault) -> anyhow::Result<()> {
+fn refused(rt: &HostRuntime, fault: TextFault) -> anyhow::Result<ExitCode> {
     let place = fault.place();
     match fault.number() {
         Some(number) => {
             println!(rt; "refused {number} {place}")?;
-            Err(anyhow!("refused"))
+            Ok(ExitCode::FAILURE)
         }
         None => Err(anyhow!("out of memory")),
     }
 }
 
-fn main(rt: HostRuntime) -> anyhow::Result<()> {
-    let text = match input(&rt) {
-        Ok(text) => text,
-        Err(error) => return Err(error),
-    };
+fn main(rt: HostRuntime) -> anyhow::Result<ExitCode> {
+    let text = input(&rt)?;
     match read(rt.alloc(), text.as_slice()) {
-        Ok(job) => tell(&rt, &job),
+        Ok(job) => {
+            tell(&rt, &job)?;
+            Ok(ExitCode::SUCCESS)
+        }
         Err(fault) => refused(&rt, fault),
     }
 }

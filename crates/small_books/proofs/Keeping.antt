@@ -1,7 +1,7 @@
 -- The sizes of all that the check of a small book works out.
 use Rattle.std.proofs.Common.{◌≡◌, ℕ, zero, suc, ◌+◌, ◌*◌, ◌<◌, ◌≤◌, Bool, true, false, cond, List, [], ◌∷◌, ◌++◌, map, length, ℤ, sym, refl, ap, ◌∙◌, subst, ap₂, arith}
 use mathlib.Core.List.{flat_map}
-use Rattle.std.specs.List.{AllByRecursion as All}
+use Rattle.std.specs.List.{AllByRecursion}
 use Rattle.std.proofs.ByRecursion.{All-map, All-append, All-weaker}
 use Rattle.exact.specs.Cyclotomic.{Cyclotomic, CyclotomicLaws, power}
 use Rattle.exact.specs.JobNumbers.{Part, Step}
@@ -26,7 +26,7 @@ use Rattle.small_books.proofs.Ones.{one_within}
 
 -- the starts of all edges of a chain are at most m in size
 abbrev StartsWithin : (E : Cyclotomic) → ℕ → Chain E → Type 0
-StartsWithin E m c = All (λ x. Within m (E.list x.what.start)) c
+StartsWithin E m c = AllByRecursion (λ x. Within m (E.list x.what.start)) c
 
 module _ (E : Cyclotomic) (L : CyclotomicLaws E) (Z : SizeLaws E) (B : Book E) where
   fits : (s : ℕ) (x : E.Elem) → s ≤ plane_bound → Within s (E.list x) → OnPlane E x
@@ -87,7 +87,7 @@ module _ (E : Cyclotomic) (L : CyclotomicLaws E) (Z : SizeLaws E) (B : Book E) w
         let next = along_size s q x.label x.direction w in
         (start_of m x.label x.direction x.forward q (within_wider s m _ (omega arith) w) (within_wider (s + 64) m _ (omega arith) next), starts m ss _ (s + 64) (omega arith) next)
 
-    corner_sizes : (m : ℕ) (ss : List Step) (q : E.Elem) (s : ℕ) → s + 64 * length ss ≤ m → Within s (E.list q) → All (λ c. Within m (E.list c)) (corners E B ss q)
+    corner_sizes : (m : ℕ) (ss : List Step) (q : E.Elem) (s : ℕ) → s + 64 * length ss ≤ m → Within s (E.list q) → AllByRecursion (λ c. Within m (E.list c)) (corners E B ss q)
     unfolding corners
     corner_sizes m [] q s h w = tt
     corner_sizes m (x ∷ ss) q s h w =
@@ -108,7 +108,7 @@ module _ (E : Cyclotomic) (L : CyclotomicLaws E) (Z : SizeLaws E) (B : Book E) w
     outline_starts t = let h = few t in starts 768 (tile_at B t).outline E.zero 0 (omega (arith, h)) (zero_within E L)
 
     -- ---- sweeps of corners of at most 768 in size
-    swept : (cs : List E.Elem) (p : E.Elem) → Within 768 (E.list p) → All (λ c. Within 768 (E.list c)) cs → Within (length cs * 18874368) (E.list (sweep_through E p cs))
+    swept : (cs : List E.Elem) (p : E.Elem) → Within 768 (E.list p) → AllByRecursion (λ c. Within 768 (E.list c)) cs → Within (length cs * 18874368) (E.list (sweep_through E p cs))
     swept [] p v w = within_wider 0 (0 * 18874368) _ (omega arith) (zero_within E L)
     swept (c ∷ cs) p v w = within_wider (18874368 + length cs * 18874368) (length (c ∷ cs) * 18874368) _ (omega arith) (Z.sum_size 18874368 (length cs * 18874368) _ _ (sweep_size E Z 768 p c v w.0) (swept cs c w.0 w.1))
 
@@ -144,7 +144,7 @@ module _ (E : Cyclotomic) (L : CyclotomicLaws E) (Z : SizeLaws E) (B : Book E) w
     unfolding placed_outline placed placed_entry placed_edge
     placed_starts p v = All-map _ (placed_entry E p) (outline E B p.tile) (All-weaker _ _ (λ x w. image_size p x.what.start v w) (outline E B p.tile) (outline_starts p.tile))
 
-    outlines_starts : (ps : List (Placement E)) → All (λ p. Within 32 (E.list p.place)) ps → StartsWithin E 3104 (outlines E B ps)
+    outlines_starts : (ps : List (Placement E)) → AllByRecursion (λ p. Within 32 (E.list p.place)) ps → StartsWithin E 3104 (outlines E B ps)
     unfolding outlines flat_map
     outlines_starts [] v = tt
     outlines_starts (p ∷ ps) v = All-append _ (placed_outline E B p) _ (placed_starts p v.0) (outlines_starts ps v.1)
@@ -179,7 +179,7 @@ module _ (E : Cyclotomic) (L : CyclotomicLaws E) (Z : SizeLaws E) (B : Book E) w
     inflate_starts [] w = tt
     inflate_starts (x ∷ c) w = All-append _ (scaled x.count (subdivided E B x.what)) _ (scaled_starts 197120 x.count (subdivided E B x.what) (subdivided_starts x.what w.0)) (inflate_starts c w.1)
 
-    pub kept_balance : (t : ℕ) → All (λ p. Within 32 (E.list p.place)) (tile_at B t).children → KeptBalance E B t
+    pub kept_balance : (t : ℕ) → AllByRecursion (λ p. Within 32 (E.list p.place)) (tile_at B t).children → KeptBalance E B t
     kept_balance t v = record {
       children = All-weaker _ _ kept_placed (tile_at B t).children v;
       corners = kept_outline t;

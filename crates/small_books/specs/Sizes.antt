@@ -1,6 +1,6 @@
 -- Books with small coefficients.
 use Rattle.std.specs.Prelude.{ℕ, ◌<◌, ◌≤◌, length}
-use Rattle.std.specs.List.{AllByRecursion as All}
+use Rattle.std.specs.List.{AllByRecursion}
 use Rattle.exact.specs.Cyclotomic.{Cyclotomic}
 use Rattle.exact.specs.Sizes.{Within}
 use Rattle.chains.specs.Books.{Book, label_at, tile_at}
@@ -17,7 +17,7 @@ job_bound = 32
 pub record Small (E : Cyclotomic) (B : Book E) : Type 0 where
   pub factor : Within job_bound (E.list B.factor)
   pub lengths : (e : ℕ) → e < length B.labels → Within job_bound (E.list (label_at B e).length)
-  pub places : (t : ℕ) → t < length B.tiles → All (λ p. Within job_bound (E.list p.place)) (tile_at B t).children
+  pub places : (t : ℕ) → t < length B.tiles → AllByRecursion (λ p. Within job_bound (E.list p.place)) (tile_at B t).children
 
 -- lists that are no longer than a job's
 pub record Limited (E : Cyclotomic) (B : Book E) : Type 0 where

@@ -181,12 +181,10 @@ mod tests {
         let place = place.parse::<usize>()?;
         let text = text_of(heap, keep.parse::<usize>()?, own)?;
         match read(heap, text.as_slice()) {
-            Ok(_) => Err(Fail::new("read")).note(row),
-            Err(e) => {
-                assert!(rt; e.number() == Some(number) && e.place() == place, "{}", row);
-                Ok(())
-            },
+            Ok(_) => assert!(rt; false, "read: {row}"),
+            Err(e) => assert!(rt; e.number() == Some(number) && e.place() == place, "{row}"),
         }
+        Ok(())
     }
 
     #[test]
@@ -198,27 +196,27 @@ mod tests {
     }
 
     // Reads the text, writes the job into a longer buffer, and compares.
-    fn comes_back(rt: &impl Abort, heap: Global, text: &[u8]) -> Result<(), Fail> {
+    fn comes_back(rt: &impl Abort, heap: Global, text: &[u8], note: &str) -> Result<(), Fail> {
         let job = match read(heap, text) {
             Ok(job) => job,
             Err(_) => return Err(Fail::new("refused")),
         };
         let mut buffer = [7; 4096];
         let written = job.write(&mut buffer);
-        assert!(rt; written.is_ok());
+        assert!(rt; written.is_ok(), "{note}");
         let length = written.unwrap_or(0);
-        assert!(rt; length == text.len() && length < buffer.len());
-        assert!(rt; &buffer[0..length] == text && buffer[length] == 7);
+        assert!(rt; length == text.len() && length < buffer.len(), "{note}");
+        assert!(rt; &buffer[0..length] == text && buffer[length] == 7, "{note}");
         Ok(())
     }
 
     #[test]
     fn both_ways(rt: HostRuntime) -> Result<(), Fail> {
-        comes_back(&rt, rt.alloc(), chair().as_bytes()).note("chair")?;
-        comes_back(&rt, rt.alloc(), penrose().as_bytes()).note("penrose")?;
+        comes_back(&rt, rt.alloc(), chair().as_bytes(), "chair")?;
+        comes_back(&rt, rt.alloc(), penrose().as_bytes(), "penrose")?;
         for own in accepted_rows().split('\n') {
             let text = text_of(rt.alloc(), 5, own)?;
-            comes_back(&rt, rt.alloc(), text.as_slice()).note(own)?;
+            comes_back(&rt, rt.alloc(), text.as_slice(), own)?;
         }
         Ok(())
     }

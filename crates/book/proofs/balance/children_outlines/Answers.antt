@@ -1,6 +1,6 @@
 use Rattle.std.proofs.Common.{◌≡◌, map, sym, refl, ap, ◌∙◌, subst}
 use mathlib.Core.List.{flat_map}
-use Rattle.std.specs.List.{AllByRecursion as All}
+use Rattle.std.specs.List.{AllByRecursion}
 use Rattle.chains.specs.Placements.{outlines}
 use Rattle.edges.specs.Views.{chain_view, placement_view, book_view}
 use Rattle.edges.specs.Working.{KeptPlacedOutline}
@@ -14,7 +14,7 @@ returns-then-t-len g c =
     let B = book_view E v c.args.book.now in
     let s = ap (map (placement_view E v)) c.as_slice.ensures.value
     ∙ sym (ap (λ t. t.children) (tile_is E v c.args.book.now c.args.t _ c.index.result.now c.len.ensures c.if-t-len.true c.index.ensures)) in
-    made_weaker c.outlines_at.result _ _ _ _ (λ _ e. e ∙ ap (outlines E B) s) (subst (All (KeptPlacedOutline E B)) s) (subst (All (KeptPlacedOutline E B)) (sym s)) c.outlines_at.ensures
+    made_weaker c.outlines_at.result _ _ _ _ (λ _ e. e ∙ ap (outlines E B) s) (subst (AllByRecursion (KeptPlacedOutline E B)) s) (subst (AllByRecursion (KeptPlacedOutline E B)) (sym s)) c.outlines_at.ensures
 
 pub returns-else-t-len : goal.returns-else-t-len
 unfolding outlines flat_map
@@ -22,4 +22,4 @@ returns-else-t-len g c =
     let E = g.R.Ring.exact in let v = g.R.Ring.value in
     let B = book_view E v c.args.book.now in
     let past = tile_past E v c.args.book.now c.args.t _ c.len.ensures c.if-t-len.false in
-    record { is = (ap (chain_view E v) c.new.ensures.items ∙ sym (ap (λ t. outlines E B t.children) past), subst (λ t. All (KeptPlacedOutline E B) t.children) (sym past) tt) }
+    record { is = (ap (chain_view E v) c.new.ensures.items ∙ sym (ap (λ t. outlines E B t.children) past), subst (λ t. AllByRecursion (KeptPlacedOutline E B) t.children) (sym past) tt) }

@@ -1,6 +1,6 @@
 use Rattle.std.proofs.Common.{◌≡◌, pos, sym, refl, ap, ◌∙◌, subst, append-nil, arith, w64, to_z, of_z}
 use Rattle.std.proofs.lemmas.Int.{ints}
-use Rattle.std.specs.List.{AllByRecursion as All}
+use Rattle.std.specs.List.{AllByRecursion}
 use Rattle.book.proofs.Sides.{passed, Side, split, passed_more, passed_all, side_of, step}
 use Rattle.book.proofs.Balances.{Passes, agree, first}
 use Rattle.book.proofs.nets.first_difference.Goals as goal
@@ -12,7 +12,7 @@ pub loop-x-init : goal.loop-x-init
 loop-x-init g c = (
   c.search.invariant.0,
   side_of c.args.parts c.args.whole c.side-item.result c.search.side-index c.search-test.true,
-  subst (All (Passes g.R.Ring.exact g.R.Ring.value c.args.parts.now c.args.whole.now)) (sym (append-nil _)) c.search.invariant.1,
+  subst (AllByRecursion (Passes g.R.Ring.exact g.R.Ring.value c.args.parts.now c.args.whole.now)) (sym (append-nil _)) c.search.invariant.1,
 )
 
 pub loop-x-preserved : goal.loop-x-preserved
@@ -27,7 +27,7 @@ loop-x-preserved g c =
 pub search-preserved : goal.search-preserved
 search-preserved g c = (
   c.loop-x.invariant.0,
-  subst (All (Passes g.R.Ring.exact g.R.Ring.value c.args.parts.now c.args.whole.now))
+  subst (AllByRecursion (Passes g.R.Ring.exact g.R.Ring.value c.args.parts.now c.args.whole.now))
       (passed_more c.args.parts.now c.args.whole.now c.search.side-index _ c.loop-x.x-index c.loop-x.invariant.1 c.loop-x-test.false) c.loop-x.invariant.2,
 )
 
@@ -35,7 +35,7 @@ pub returns-after-search : goal.returns-after-search
 returns-after-search g c =
     rw c.search.invariant.0
     (agree g.R.Ring.exact g.R.Ring.value c.args.parts.now c.args.whole.now
-    (subst (All (Passes g.R.Ring.exact g.R.Ring.value c.args.parts.now c.args.whole.now)) (passed_all c.args.parts.now c.args.whole.now c.search.side-index c.search-test.false) c.search.invariant.1))
+    (subst (AllByRecursion (Passes g.R.Ring.exact g.R.Ring.value c.args.parts.now c.args.whole.now)) (passed_all c.args.parts.now c.args.whole.now c.search.side-index c.search-test.false) c.search.invariant.1))
 
 pub returns-then-amount-ne0 : goal.returns-then-amount-ne0
 returns-then-amount-ne0 g c =

@@ -1,5 +1,5 @@
 use Rattle.std.proofs.Common.{◌≡◌, ◌++◌, take, None}
-use Rattle.std.specs.List.{AllByRecursion as All}
+use Rattle.std.specs.List.{AllByRecursion}
 use Rattle.edges.specs.Views.{chain_view, counted_view}
 use Rattle.book.specs.Differences.{SameAt}
 use Rattle.book.proofs.Sides.{passed, Side}
@@ -11,11 +11,11 @@ invariant-loop-x g l =
     let v = g.R.Ring.value in
     (l.found ≡ None)
     × Side l.parts l.whole l.side-index l.side
-    × All (λ x. SameAt E (chain_view E v l.parts) (chain_view E v l.whole) (counted_view E v x)) (passed l.parts l.whole l.side-index ++ take l.x-index l.side)
+    × AllByRecursion (λ x. SameAt E (chain_view E v l.parts) (chain_view E v l.whole) (counted_view E v x)) (passed l.parts l.whole l.side-index ++ take l.x-index l.side)
 
 abbrev pub invariant-search : goal.invariant-search
 invariant-search g l =
     let E = g.R.Ring.exact in
     let v = g.R.Ring.value in
     (l.found ≡ None)
-    × All (λ x. SameAt E (chain_view E v l.parts) (chain_view E v l.whole) (counted_view E v x)) (passed l.parts l.whole l.side-index)
+    × AllByRecursion (λ x. SameAt E (chain_view E v l.parts) (chain_view E v l.whole) (counted_view E v x)) (passed l.parts l.whole l.side-index)

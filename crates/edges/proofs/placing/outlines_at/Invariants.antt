@@ -1,5 +1,5 @@
 use Rattle.std.proofs.Common.{◌≡◌, ◌++◌, map, drop, vec_items}
-use Rattle.std.specs.List.{AllByRecursion as All}
+use Rattle.std.specs.List.{AllByRecursion}
 use Rattle.edges.specs.Views.{chain_view, placement_view, book_view}
 use Rattle.edges.specs.Working.{KeptPlacedOutline}
 use Rattle.edges.proofs.Chained.{outline_rest}
@@ -11,4 +11,4 @@ invariant-loop-p g l =
     let v = g.R.Ring.value in
     let B = book_view E v l.book in
     (chain_view E v (vec_items l.out) ++ outline_rest E v B (drop l.p-index l.placements) ≡ outline_rest E v B l.placements)
-    × (All (KeptPlacedOutline E B) (map (placement_view E v) (drop l.p-index l.placements)) → All (KeptPlacedOutline E B) (map (placement_view E v) l.placements))
+    × (AllByRecursion (KeptPlacedOutline E B) (map (placement_view E v) (drop l.p-index l.placements)) → AllByRecursion (KeptPlacedOutline E B) (map (placement_view E v) l.placements))

@@ -1,5 +1,5 @@
 use Rattle.std.proofs.Common.{◌≡◌, ◌≤◌, length, get_or, pos, refl, subst, arith, w64, SFits, rules}
-use Rattle.std.specs.List.{AllByRecursion as All}
+use Rattle.std.specs.List.{AllByRecursion}
 use Rattle.std.proofs.ByRecursion.{All-get_or, All-more}
 use Rattle.std.proofs.lemmas.List.{take_all}
 use Rattle.std.proofs.lemmas.Int.{to_z-of_z}
@@ -21,4 +21,4 @@ loop-z-preserved c =
     All-more Coefficient c.args.ns.now c.loop-z.z-index (pos 0) c.loop-z-test.true c.loop-z.invariant (small_of _ _ (to_z-of_z w64 _ f) c.if-z.false c.if-z-gt-MOST_SIZE.false)
 
 pub returns : goal.returns
-returns c = ((λ _. (c.if-ns-rank.false, subst (All Coefficient) (take_all _ _ c.loop-z-test.false) c.loop-z.invariant)), λ _. refl)
+returns c = ((λ _. (c.if-ns-rank.false, subst (AllByRecursion Coefficient) (take_all _ _ c.loop-z-test.false) c.loop-z.invariant)), λ _. refl)

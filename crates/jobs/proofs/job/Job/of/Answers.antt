@@ -10,4 +10,7 @@ invariant_of-result c =
     let d = c.args.draft in
     let a = length-map (vec_items d.subdivisions) (λ v. map part_of (vec_items v)) in
     let b = length-map (vec_items d.labels) head_of in
-    (omega (arith, c.requires.1), (∣ subst (λ n. InRange (numbers_of d.order d.rank (vec_items d.factor) (map head_of (vec_items d.labels)) (map (λ v. map part_of (vec_items v)) (vec_items d.subdivisions)) (map tile_of (vec_items d.tiles)) n (map placed_of (vec_items d.seeds)))) (sym c.unwrap_or-depth.ensures) c.requires.0 ∣₁, tt))
+    record {
+      paired = omega (arith, c.requires.1);
+      in_range = ∣ subst (λ n. InRange (numbers_of d.order d.rank (vec_items d.factor) (map head_of (vec_items d.labels)) (map (λ v. map part_of (vec_items v)) (vec_items d.subdivisions)) (map tile_of (vec_items d.tiles)) n (map placed_of (vec_items d.seeds)))) (sym c.unwrap_or-depth.ensures) c.requires.0 ∣₁;
+    }
