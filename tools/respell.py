@@ -16,7 +16,8 @@ root = sys.argv[1] if len(sys.argv) > 1 else "."
 SPLIT = r"[\s(){};,.\"«»]"
 TOKEN = re.compile(r"(?:(?<=" + SPLIT + r")|^)([^\s(){};,.\"«»]*-[^\s(){};,.\"«»]+)(?=" + SPLIT + r"|$)", re.M)
 DECLARED = re.compile(r"\s*(?:(?:unfoldable|abbrev|data|record|pub)\s+)*([^\s:(){}]+)(?:\s+[^:]*)?\s+:\s(.*)")
-
+# several constructors or fields of one type
+LISTED = re.compile(r"\s+(?:pub\s+)?((?:[A-Za-z][\w'-]*\s+){2,}):\s")
 
 OWN = r"Rattle\.(" + "|".join(sorted(os.listdir(os.path.join(root, "crates")))) + r")\."
 
@@ -56,6 +57,10 @@ for path in files(".antt", ".rt"):
         found = DECLARED.match(code) if path.endswith(".antt") else None
         if found and "-" in found.group(1).strip("-") and not found.group(2).startswith("goal."):
             declared.setdefault(found.group(1), path)
+        several = LISTED.match(code) if path.endswith(".antt") else None
+        for name in several.group(1).split() if several else []:
+            if "-" in name.strip("-"):
+                declared.setdefault(name, path)
 
 # two names that the check made too, of functions of src/, take that function's spelling
 MEMBERS = {"sweeps_small"}

@@ -8,7 +8,7 @@ use Rattle.exact.specs.JobNumbers as numbers
 use Rattle.chains.specs.Books as books
 use Rattle.chains.specs.Books.{label_at}
 use Rattle.chains.specs.Accepted.{backwards, turned_part}
-use Rattle.edges.specs.declared.rows.Part.{Part}
+use Rattle.job_rows.specs.declared.Part.{Part}
 use Rattle.edges.specs.Views.{part_view}
 
 module _ (E : Cyclotomic) (B : books.Book E) where

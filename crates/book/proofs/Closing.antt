@@ -11,7 +11,7 @@ use Rattle.chains.specs.Books.{tile_at}
 use Rattle.chains.specs.Edges.{corners, walk_end}
 use Rattle.chains.specs.Accepted.{total_sweep, OutlineCloses}
 use Rattle.edges.specs.declared.rows.Book.{Book}
-use Rattle.edges.specs.declared.rows.Step.{Step}
+use Rattle.job_rows.specs.declared.Step.{Step}
 use Rattle.edges.specs.Views.{book_view, step_view}
 use Rattle.edges.specs.Limits.{most_steps}
 use Rattle.edges.specs.Working.{KeptWalk, KeptOutline}

@@ -6,7 +6,7 @@ use Rattle.chains.specs.Books as books
 use Rattle.chains.specs.Books.{label_at}
 use Rattle.rings.specs.Plane.{OnPlane}
 use Rattle.chains.specs.Accepted.{lengths}
-use Rattle.edges.specs.declared.rows.Part.{Part}
+use Rattle.job_rows.specs.declared.Part.{Part}
 use Rattle.edges.specs.Views.{part_view}
 use Rattle.book.specs.Points.{KeptLengths}
 

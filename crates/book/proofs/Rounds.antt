@@ -10,7 +10,7 @@ use Rattle.exact.proofs.Totals.{totals_laws}
 use Rattle.rings.specs.Plane.{sweep_bound}
 use Rattle.chains.specs.Books.{Book}
 use Rattle.chains.specs.Edges.{along, corners, walk_end}
-use Rattle.edges.specs.declared.rows.Step.{Step}
+use Rattle.job_rows.specs.declared.Step.{Step}
 use Rattle.edges.specs.Views.{step_view}
 use Rattle.edges.specs.Working.{KeptAlong, KeptWalk}
 use Rattle.edges.proofs.Walking.{corners_more, corners_none, kept_more, kept_back, kept_none}

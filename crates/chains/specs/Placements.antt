@@ -29,12 +29,12 @@ module _ (E : Cyclotomic) (p : Placement E) where
   placed c = map placed_entry c
 
 module _ (E : Cyclotomic) (B : Book E) where
-  -- the placement with F-as-P for its place P
+  -- the placement with F·P for its place P
   unfoldable pub stretched : Placement E → Placement E
   stretched p = record { tile = p.tile; turn = p.turn; mirrored = p.mirrored; place = E.mul B.factor p.place }
 
-  -- Where a child lies under a placed parent: at F-as-P + ζ^k·v with turn k + k' and its own mark, or,
-  -- under a mirrored parent, at F-as-P + ζ^k·conj v with turn k - k' and the other mark.
+  -- Where a child lies under a placed parent: at F·P + ζ^k·v with turn k + k' and its own mark, or,
+  -- under a mirrored parent, at F·P + ζ^k·conj v with turn k - k' and the other mark.
   unfoldable pub child_of : Placement E → Placement E → Placement E
   child_of p c = record {
     tile = c.tile;

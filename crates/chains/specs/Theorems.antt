@@ -32,7 +32,7 @@ InflationKeepsSameNets E = (B : Book E) → ((e : ℕ) → e < length B.labels �
 abbrev pub RealLengths : (E : Cyclotomic) → Book E → Type 0
 RealLengths E B = (e : ℕ) → e < length B.labels → E.conj (label_at B e).length ≡ (label_at B e).length
 
--- With a real factor and real lengths, to inflate a chain placed at P is to place the inflated chain at F-as-P.
+-- With a real factor and real lengths, to inflate a chain placed at P is to place the inflated chain at F·P.
 abbrev pub PlacingAndInflatingCommute : Cyclotomic → Type 0
 PlacingAndInflatingCommute E = (B : Book E) → E.conj B.factor ≡ B.factor → RealLengths E B →
     (p : Placement E) (c : Chain E) → inflate E B (placed E p c) ≡ placed E (stretched E B p) (inflate E B c)
@@ -42,7 +42,7 @@ abbrev pub PlacingKeepsSameNets : Cyclotomic → Type 0
 PlacingKeepsSameNets E = (B : Book E) → RealLengths E B →
     (p : Placement E) (c c' : Chain E) → SameNet E B c c' → SameNet E B (placed E p c) (placed E p c')
 
--- To place by a child of a placed parent is to place by the child and then by the parent at F-as-P: points, directions and chains.
+-- To place by a child of a placed parent is to place by the child and then by the parent at F·P: points, directions and chains.
 abbrev pub ChildrenCompose : Cyclotomic → Type 0
 ChildrenCompose E = (B : Book E) (p c : Placement E) →
     ((z : E.Elem) → image E (child_of E B p c) z ≡ image E (stretched E B p) (image E c z))

@@ -28,7 +28,7 @@ pub fn inflation_keeps_same_nets<R: Ring>() -> u8
     0
 }
 
-// To inflate a placed chain is to place the inflated chain, with F.P for the place P.
+// To inflate a placed chain is to place the inflated chain, with F·P for the place P.
 pub fn placing_and_inflating_commute<R: Ring>() -> u8
     ensures { PlacingAndInflatingCommute R.exact }
 {
@@ -41,7 +41,7 @@ pub fn placing_keeps_same_nets<R: Ring>() -> u8
     0
 }
 
-// To place by a child of a placed parent is to place by the child, then by the parent at F.P.
+// To place by a child of a placed parent is to place by the child, then by the parent at F·P.
 pub fn children_compose<R: Ring>() -> u8
     ensures { ChildrenCompose R.exact }
 {

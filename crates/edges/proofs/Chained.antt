@@ -11,7 +11,7 @@ use Rattle.chains.specs.Edges.{canonical}
 use Rattle.chains.specs.Inflation.{stepped, subdivided, inflate}
 use Rattle.chains.specs.Placements.{placed, placed_entry, placed_outline, outlines}
 use Rattle.edges.specs.declared.rows.Counted.{Counted}
-use Rattle.edges.specs.declared.rows.Part.{Part}
+use Rattle.job_rows.specs.declared.Part.{Part}
 use Rattle.edges.specs.declared.rows.Placement.{Placement}
 use Rattle.edges.specs.Views.{counted_view, chain_view, edge_view, part_view, placement_view, count_of}
 

@@ -5,7 +5,7 @@ use Rattle.exact.specs.Cyclotomic.{Cyclotomic}
 use Rattle.exact.specs.JobNumbers as numbers
 use Rattle.chains.specs.Books.{Book}
 use Rattle.chains.specs.Edges.{walk, corners, along, step_count}
-use Rattle.edges.specs.declared.rows.Step.{Step}
+use Rattle.job_rows.specs.declared.Step.{Step}
 use Rattle.edges.specs.Views.{step_view}
 use Rattle.edges.specs.Working.{KeptAlong, KeptWalk}
 

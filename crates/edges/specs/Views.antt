@@ -7,8 +7,8 @@ use Rattle.chains.specs.Books as books
 use Rattle.chains.specs.Edges as chains
 use Rattle.edges.specs.declared.rows.Edge.{Edge}
 use Rattle.edges.specs.declared.rows.Counted.{Counted}
-use Rattle.edges.specs.declared.rows.Part.{Part}
-use Rattle.edges.specs.declared.rows.Step.{Step}
+use Rattle.job_rows.specs.declared.Part.{Part}
+use Rattle.job_rows.specs.declared.Step.{Step}
 use Rattle.edges.specs.declared.rows.Placement.{Placement}
 use Rattle.edges.specs.declared.rows.Label.{Label}
 use Rattle.edges.specs.declared.rows.Tile.{Tile}

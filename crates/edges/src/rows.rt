@@ -2,6 +2,8 @@
 ghost use Rattle.std.specs.Prelude.{◌≤◌, vec_len};
 ghost use Rattle.edges.specs.Limits.{most_parts, most_steps, most_children};
 
+pub use job_rows::{Part, Step};
+
 // A label in a direction from a start.
 #[derive(Clone, Copy)]
 pub struct Edge<R> {
@@ -22,21 +24,6 @@ pub struct Counted<R> {
 pub struct Stepped<R> {
     pub counted: Counted<R>,
     pub end: R,
-}
-
-// A part of a subdivision.
-#[derive(Clone, Copy)]
-pub struct Part {
-    pub label: usize,
-    pub forward: bool,
-}
-
-// A step of an outline.
-#[derive(Clone, Copy)]
-pub struct Step {
-    pub label: usize,
-    pub forward: bool,
-    pub direction: u32,
 }
 
 // A tile by its number, mirrored first where the mark says so, then turned, then brought to a place.

@@ -1,7 +1,7 @@
 // Z[i] on the plane.
 #![tactic(auto)]
 
-ghost use Rattle.std.specs.Prelude.{◌≡◌, [], ◌∷◌, ℤ};
+ghost use Rattle.std.specs.Prelude.{◌≡◌, refl, [], ◌∷◌, ℤ};
 ghost use Rattle.exact.specs.Cyclotomic.{same_element};
 ghost use Rattle.exact.specs.Residues.{totals};
 ghost use Rattle.exact.specs.Sweeps.{row_total};
@@ -10,7 +10,6 @@ ghost use Rattle.exact.specs.Sizes.{Between};
 ghost use Rattle.rings.specs.Plane.{plane_bound};
 ghost use Rattle.rings.specs.Answers.{Exactly, HeightOf};
 ghost use Rattle.std.specs.Cmp.{on_per};
-ghost use Rattle.std.proofs.Common.{rules, arith};
 ghost use Rattle.exact.proofs.Equality.{same_element_partial_equivalence};
 ghost use Rattle.exact.proofs.Totals.{totals_laws, row_ends};
 ghost use Rattle.exact.proofs.GaussianLaws.{gaussian_laws};
@@ -127,13 +126,13 @@ impl Ring for Gaussian {
 
     ghost lawful = { gaussian_laws };
 
-    ghost bounded = { first_of (Prim.search rules, Prim.grind (arith, Self.row.coded.inj)) };
+    ghost bounded = { λ z. (z.near0, (z.near1, tt)) };
 
-    ghost decided = { first_of (Prim.search rules, Prim.grind (arith, Self.row.coded.inj)) };
+    ghost decided = { λ a b t e. e };
 
-    ghost listed_row = { first_of (Prim.search rules, Prim.grind (arith, Self.row.coded.inj)) };
+    ghost listed_row = { λ x. refl };
 
-    ghost row_listed = { first_of (Prim.search rules, Prim.grind (arith, Self.row.coded.inj)) };
+    ghost row_listed = { λ p. refl };
 
     ghost tied = { record { zero = λ s e. e; sum = λ s t u e. e; opposite = λ s t e. e } };
 

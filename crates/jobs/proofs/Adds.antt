@@ -2,7 +2,7 @@
 use Rattle.std.proofs.Common.{◌≡◌, ℕ, ◌<◌, ◌≤◌, Bool, List, [], ◌∷◌, ◌++◌, map, length, ℤ, Ok, Err, Option, sym, refl, ap, ◌∙◌, subst, ap₂, append-nil, arith}
 use Rattle.std.specs.List.{flat_map}
 use Rattle.exact.specs.JobNumbers.{TileNumbers, PlacedNumbers, Part, Step}
-use Rattle.lines.specs.Letters.{Letter, letter-L, letter-S, letter-T, letter-C, letter-P}
+use Rattle.lines.specs.Letters.{Letter, letter_L, letter_S, letter_T, letter_C, letter_P}
 use Rattle.jobs.specs.declared.rows.Label.{Label}
 use Rattle.jobs.specs.declared.draft.Misfit.{Misfit}
 use Rattle.jobs.specs.declared.draft.Misfit.TheVariants.{Place as Misplaced, Numbers, Memory}
@@ -13,33 +13,33 @@ use Rattle.jobs.specs.Spelled.{label_numbers, part_numbers, step_numbers, placed
 use Rattle.jobs.proofs.Series.{placed_unique}
 use Rattle.jobs.specs.Rows.{head_of}
 
-pub unfit_label : (e : Misfit) (f g : Front) (zs : List ℤ) → Place f letter-L → Unfit ((b : Bool) (ys : List ℤ) → Element f.rank ys → zs ≡ label_numbers b ys → ⊥) e → Added f letter-L zs (Err e) g
+pub unfit_label : (e : Misfit) (f g : Front) (zs : List ℤ) → Place f letter_L → Unfit ((b : Bool) (ys : List ℤ) → Element f.rank ys → zs ≡ label_numbers b ys → ⊥) e → Added f letter_L zs (Err e) g
 unfit_label Misplaced f g zs p h = absurd h
 unfit_label Numbers f g zs p h = (p, λ k t. h t.0.arrowed t.0.length t.1 t.2)
 unfit_label Memory f g zs p h = tt
 
-pub unfit_subdivision : (e : Misfit) (f g : Front) (ks : List Bool) (zs : List ℤ) → Place f letter-S → kinds f ≡ ks → Unfit ((ps : List Part) → SubdivisionFits ks ps → zs ≡ flat_map part_numbers ps → ⊥) e → Added f letter-S zs (Err e) g
+pub unfit_subdivision : (e : Misfit) (f g : Front) (ks : List Bool) (zs : List ℤ) → Place f letter_S → kinds f ≡ ks → Unfit ((ps : List Part) → SubdivisionFits ks ps → zs ≡ flat_map part_numbers ps → ⊥) e → Added f letter_S zs (Err e) g
 unfit_subdivision Misplaced f g ks zs p k h = absurd h
 unfit_subdivision Numbers f g ks zs p k h = (p, λ _ t. h t.0 (subst (λ ks. SubdivisionFits ks t.0) k t.1) t.2)
 unfit_subdivision Memory f g ks zs p k h = tt
 
-pub unfit_outline : (e : Misfit) (f g : Front) (ks : List Bool) (zs : List ℤ) → Place f letter-T → kinds f ≡ ks → Unfit ((ss : List Step) → OutlineFits ks f.order ss → zs ≡ flat_map step_numbers ss → ⊥) e → Added f letter-T zs (Err e) g
+pub unfit_outline : (e : Misfit) (f g : Front) (ks : List Bool) (zs : List ℤ) → Place f letter_T → kinds f ≡ ks → Unfit ((ss : List Step) → OutlineFits ks f.order ss → zs ≡ flat_map step_numbers ss → ⊥) e → Added f letter_T zs (Err e) g
 unfit_outline Misplaced f g ks zs p k h = absurd h
 unfit_outline Numbers f g ks zs p k h = (p, λ _ t. h t.0 (subst (λ ks. OutlineFits ks f.order t.0) k t.1) t.2)
 unfit_outline Memory f g ks zs p k h = tt
 
-pub unfit_child : (e : Misfit) (f g : Front) (zs : List ℤ) → Place f letter-C → Unfit ((p : PlacedNumbers) → PlacedFits f.order f.rank p → zs ≡ placed_numbers p → ⊥) e → Added f letter-C zs (Err e) g
+pub unfit_child : (e : Misfit) (f g : Front) (zs : List ℤ) → Place f letter_C → Unfit ((p : PlacedNumbers) → PlacedFits f.order f.rank p → zs ≡ placed_numbers p → ⊥) e → Added f letter_C zs (Err e) g
 unfit_child Misplaced f g zs p h = absurd h
 unfit_child Numbers f g zs p h = (p, λ _ t. h t.0 t.1 t.2)
 unfit_child Memory f g zs p h = tt
 
-pub unfit_seed : (e : Misfit) (f g : Front) (zs : List ℤ) → Place f letter-P → Unfit ((p : PlacedNumbers) → PlacedFits f.order f.rank p → zs ≡ placed_numbers p → ⊥) e → Added f letter-P zs (Err e) g
+pub unfit_seed : (e : Misfit) (f g : Front) (zs : List ℤ) → Place f letter_P → Unfit ((p : PlacedNumbers) → PlacedFits f.order f.rank p → zs ≡ placed_numbers p → ⊥) e → Added f letter_P zs (Err e) g
 unfit_seed Misplaced f g zs p h = absurd h
 unfit_seed Numbers f g zs p h = (p, λ _ t. h t.0 t.1.1 t.2)
 unfit_seed Memory f g zs p h = tt
 
 -- a seed that names no tile
-pub no_tile : (f g : Front) (zs : List ℤ) (q : PlacedNumbers) → zs ≡ placed_numbers q → length f.tiles ≤ q.tile → Takes f letter-P zs g → ⊥
+pub no_tile : (f g : Front) (zs : List ℤ) (q : PlacedNumbers) → zs ≡ placed_numbers q → length f.tiles ≤ q.tile → Takes f letter_P zs g → ⊥
 no_tile f g zs q e l t = let u = ap (λ (p : PlacedNumbers). p.tile) (placed_unique q t.0 (sym e ∙ t.2)) in omega (arith, t.1.0)
 
 pub no_memory : (e : Misfit) (f g : Front) (a : Letter) (zs : List ℤ) → e ≡ Memory → Added f a zs (Err e) g

@@ -4,7 +4,7 @@ use Rattle.std.specs.List.{flat_map, AllByRecursion}
 use Rattle.std.proofs.ByRecursion.{All-push}
 use Rattle.std.proofs.lemmas.List.{flat_map_more, length_push, length-append, length-map, nil_from_length}
 use Rattle.exact.specs.JobNumbers.{JobNumbers, LabelNumbers, TileNumbers}
-use Rattle.lines.specs.Letters.{Letter, letter-D}
+use Rattle.lines.specs.Letters.{Letter, letter_D}
 use Rattle.lines.specs.Lines.{Line, line, text, spelt, WellSpelt, FirstLine}
 use Rattle.lines.proofs.Fronted.{first_shorter}
 use Rattle.lines.specs.declared.Misread.{Misread}
@@ -93,7 +93,7 @@ bytes_of (l ∷ ls) = let h = bytes_of ls in let n = length-append (spelt l.lett
 
 lines_count : (j : JobNumbers) → 3 + length j.labels + length j.labels + length (flat_map tile_lines j.tiles) ≤ length (lines_of j)
 lines_count j =
-    let seeds = line letter-D (pos j.depth ∷ []) ∷ map seed_line j.seeds in
+    let seeds = line letter_D (pos j.depth ∷ []) ∷ map seed_line j.seeds in
     let tiles = flat_map tile_lines j.tiles ++ seeds in
     let subs = map (λ (l : LabelNumbers). subdivision_line l.subdivision) j.labels in
     let a : length (map label_line j.labels ++ (subs ++ tiles)) ≡ length (map label_line j.labels) + length (subs ++ tiles) = length-append (map label_line j.labels) (subs ++ tiles) in

@@ -3,7 +3,7 @@ use Rattle.std.proofs.Common.{◌≡◌, ℕ, ◌+◌, ◌<◌, ◌≤◌, Bool,
 use Rattle.std.specs.List.{flat_map, AllByRecursion}
 use Rattle.std.proofs.lemmas.List.{length_push, length-append, length-map}
 use Rattle.exact.specs.JobNumbers.{JobNumbers, LabelNumbers, TileNumbers, PlacedNumbers, Part, Step}
-use Rattle.lines.specs.Letters.{Letter, letter_R, letter-I, letter-L, letter-S, letter-T, letter-C, letter-D, letter-P}
+use Rattle.lines.specs.Letters.{Letter, letter_R, letter_I, letter_L, letter_S, letter_T, letter_C, letter_D, letter_P}
 use Rattle.lines.specs.Lines.{Line, line}
 use Rattle.jobs.specs.Limits.{Ring, most_labels, most_tiles, most_children, most_depth, most_seeds}
 use Rattle.jobs.specs.Ranges.{Element, PlacedFits, SeedFits, SubdivisionFits, OutlineFits, TileFits, LabelFits, Shaped, kinds_of}
@@ -21,17 +21,17 @@ pub takes_one : (a : Letter) (f : Front) (zs : List ℤ) (g h : Front) → Takes
 takes_one letter_R f zs g h (n, d, r, e, q) (m, c, s, k, w) =
     let x : n ≡ m = cc in
     q ∙ ap₂ (with_ring f) x (ring_rank n d m c r s x) ∙ sym w
-takes_one letter-I f zs g h (_, q) (_, w) = q ∙ sym w
-takes_one letter-L f zs g h (x, _, e, q) (y, _, k, w) =
+takes_one letter_I f zs g h (_, q) (_, w) = q ∙ sym w
+takes_one letter_L f zs g h (x, _, e, q) (y, _, k, w) =
     let m = mark_inj x.arrowed y.arrowed (cc) in
     let l : x.length ≡ y.length = cc in
     let u : x ≡ y = λ i. record { arrowed = m i; length = l i } in
     q ∙ ap (with_label f) u ∙ sym w
-takes_one letter-S f zs g h (x, _, e, q) (y, _, k, w) = q ∙ ap (with_subdivision f) (parts_unique x y (sym e ∙ k)) ∙ sym w
-takes_one letter-T f zs g h (x, _, e, q) (y, _, k, w) = q ∙ ap (with_tile f) (steps_unique x y (sym e ∙ k)) ∙ sym w
-takes_one letter-C f zs g h (x, _, e, q) (y, _, k, w) = q ∙ ap (with_child f) (placed_unique x y (sym e ∙ k)) ∙ sym w
-takes_one letter-D f zs g h (x, _, e, q) (y, _, k, w) = let u : x ≡ y = cc in q ∙ ap (with_depth f) u ∙ sym w
-takes_one letter-P f zs g h (x, _, e, q) (y, _, k, w) = q ∙ ap (with_seed f) (placed_unique x y (sym e ∙ k)) ∙ sym w
+takes_one letter_S f zs g h (x, _, e, q) (y, _, k, w) = q ∙ ap (with_subdivision f) (parts_unique x y (sym e ∙ k)) ∙ sym w
+takes_one letter_T f zs g h (x, _, e, q) (y, _, k, w) = q ∙ ap (with_tile f) (steps_unique x y (sym e ∙ k)) ∙ sym w
+takes_one letter_C f zs g h (x, _, e, q) (y, _, k, w) = q ∙ ap (with_child f) (placed_unique x y (sym e ∙ k)) ∙ sym w
+takes_one letter_D f zs g h (x, _, e, q) (y, _, k, w) = let u : x ≡ y = cc in q ∙ ap (with_depth f) u ∙ sym w
+takes_one letter_P f zs g h (x, _, e, q) (y, _, k, w) = q ∙ ap (with_seed f) (placed_unique x y (sym e ∙ k)) ∙ sym w
 
 -- one line, as a step
 then : (f h g : Front) (l : Line) (ls : List Line) → Steps f l h → Leads h ls g → Leads f (l ∷ ls) g

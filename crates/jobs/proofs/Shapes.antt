@@ -5,7 +5,7 @@ use Rattle.std.proofs.ByRecursion.{All-push}
 use Rattle.std.proofs.lemmas.List.{length_push, length-append, map_push, map-append}
 use Rattle.std.proofs.lemmas.Bool.{false≢true}
 use Rattle.exact.specs.JobNumbers.{JobNumbers, LabelNumbers, TileNumbers, PlacedNumbers, Part, Step}
-use Rattle.lines.specs.Letters.{Letter, letter_R, letter-I, letter-L, letter-S, letter-T, letter-C, letter-D, letter-P}
+use Rattle.lines.specs.Letters.{Letter, letter_R, letter_I, letter_L, letter_S, letter_T, letter_C, letter_D, letter_P}
 use Rattle.lines.specs.Lines.{Line, line}
 use Rattle.jobs.specs.Limits.{Ring, most_labels, most_tiles, most_children, most_depth, most_seeds}
 use Rattle.jobs.specs.Ranges.{Element, PlacedFits, SeedFits, SubdivisionFits, OutlineFits, TileFits, LabelFits, Shaped, kinds_of}
@@ -20,7 +20,7 @@ abbrev pub HeadFits : ℕ → Head → Type 0
 HeadFits d h = Element d h.length
 
 abbrev pub head_line : Head → Line
-head_line h = line letter-L (label_numbers h.arrowed h.length)
+head_line h = line letter_L (label_numbers h.arrowed h.length)
 
 abbrev pub tile : List Step → List PlacedNumbers → TileNumbers
 tile ss cs = record { outline = ss; children = cs }
@@ -46,10 +46,10 @@ abbrev pub ring_line : ℕ → Line
 ring_line n = line letter_R (pos n ∷ [])
 
 abbrev pub factor_line : List ℤ → Line
-factor_line fs = line letter-I fs
+factor_line fs = line letter_I fs
 
 abbrev pub depth_line : ℕ → Line
-depth_line n = line letter-D (pos n ∷ [])
+depth_line n = line letter_D (pos n ∷ [])
 
 abbrev pub shape_lines : Shape → List Line
 shape_lines start = []
@@ -104,53 +104,53 @@ no_factor n d fs r f e = omega (arith, f.0)
 
 after_start : (a : Letter) (zs : List ℤ) (g : Front) → Place nothing a → Takes nothing a zs g → Next start a zs g
 after_start letter_R zs g p (n, d, r, e, q) = (ringed n d, r, q, ap (λ t. line letter_R t ∷ []) (sym e))
-after_start letter-I zs g p t = absurd (omega (arith, p.0))
-after_start letter-L zs g p t = absurd (omega (arith, p.0))
-after_start letter-S zs g p t = absurd (omega arith)
-after_start letter-T zs g p t = absurd (omega (arith, p.0))
-after_start letter-C zs g p t = absurd (omega (arith, p.0))
-after_start letter-D zs g p t = absurd (omega arith)
-after_start letter-P zs g p t = absurd (false≢true p.0)
+after_start letter_I zs g p t = absurd (omega (arith, p.0))
+after_start letter_L zs g p t = absurd (omega (arith, p.0))
+after_start letter_S zs g p t = absurd (omega arith)
+after_start letter_T zs g p t = absurd (omega (arith, p.0))
+after_start letter_C zs g p t = absurd (omega (arith, p.0))
+after_start letter_D zs g p t = absurd (omega arith)
+after_start letter_P zs g p t = absurd (false≢true p.0)
 
 after_ringed : (n d : ℕ) → Ring n d → (a : Letter) (zs : List ℤ) (g : Front) → Place (shape_front (ringed n d)) a → Takes (shape_front (ringed n d)) a zs g → Next (ringed n d) a zs g
 after_ringed n d r letter_R zs g p t = absurd (no_order n d r p)
-after_ringed n d r letter-I zs g p (f, q) = (listed n d zs [] [], record { ring = r; factor = f; few = omega arith; heads = tt; paired = omega arith; subdivisions = tt }, q, refl)
-after_ringed n d r letter-L zs g p t = absurd (omega (arith, p.0))
-after_ringed n d r letter-S zs g p t = absurd (omega arith)
-after_ringed n d r letter-T zs g p t = absurd (omega (arith, p.0))
-after_ringed n d r letter-C zs g p t = absurd (omega (arith, p.0))
-after_ringed n d r letter-D zs g p t = absurd (omega arith)
-after_ringed n d r letter-P zs g p t = absurd (false≢true p.0)
+after_ringed n d r letter_I zs g p (f, q) = (listed n d zs [] [], record { ring = r; factor = f; few = omega arith; heads = tt; paired = omega arith; subdivisions = tt }, q, refl)
+after_ringed n d r letter_L zs g p t = absurd (omega (arith, p.0))
+after_ringed n d r letter_S zs g p t = absurd (omega arith)
+after_ringed n d r letter_T zs g p t = absurd (omega (arith, p.0))
+after_ringed n d r letter_C zs g p t = absurd (omega (arith, p.0))
+after_ringed n d r letter_D zs g p t = absurd (omega arith)
+after_ringed n d r letter_P zs g p t = absurd (false≢true p.0)
 
 label_more : (n d : ℕ) (fs : List ℤ) (hs : List Head) (pss : List (List Part)) (h : Head) (zs : List ℤ) (g : Front) → Base n d fs hs pss → length pss ≡ 0 → length hs < most_labels
-    → HeadFits d h → zs ≡ label_numbers h.arrowed h.length → g ≡ whole_front n d fs (hs ++ h ∷ []) pss [] [] [] None [] → Next (listed n d fs hs pss) letter-L zs g
+    → HeadFits d h → zs ≡ label_numbers h.arrowed h.length → g ≡ whole_front n d fs (hs ++ h ∷ []) pss [] [] [] None [] → Next (listed n d fs hs pss) letter_L zs g
 label_more n d fs hs (p ∷ pss) h zs g b l m f e q = absurd (omega arith)
 label_more n d fs hs [] h zs g b l m f e q = (
   listed n d fs (hs ++ h ∷ []) [],
   record { ring = b.ring; factor = b.factor; few = (let k = length_push hs h in omega arith); heads = All-push (HeadFits d) hs h b.heads f; paired = omega arith; subdivisions = tt },
   q,
-  ap (λ t. ring_line n ∷ factor_line fs ∷ t) (append-nil _ ∙ map_push head_line hs h ∙ ap (λ t. map head_line hs ++ line letter-L t ∷ []) (sym e) ∙ ap (λ t. t ++ line letter-L zs ∷ []) (sym (append-nil (map head_line hs)))),
+  ap (λ t. ring_line n ∷ factor_line fs ∷ t) (append-nil _ ∙ map_push head_line hs h ∙ ap (λ t. map head_line hs ++ line letter_L t ∷ []) (sym e) ∙ ap (λ t. t ++ line letter_L zs ∷ []) (sym (append-nil (map head_line hs)))),
 )
 
 after_listed : (n d : ℕ) (fs : List ℤ) (hs : List Head) (pss : List (List Part)) → Base n d fs hs pss → (a : Letter) (zs : List ℤ) (g : Front) → Place (shape_front (listed n d fs hs pss)) a → Takes (shape_front (listed n d fs hs pss)) a zs g → Next (listed n d fs hs pss) a zs g
 after_listed n d fs hs pss b letter_R zs g p t = absurd (no_order n d b.ring p)
-after_listed n d fs hs pss b letter-I zs g p t = absurd (no_factor n d fs b.ring b.factor p.1)
-after_listed n d fs hs pss b letter-L zs g p (h, f, e, q) = label_more n d fs hs pss h zs g b p.1 p.2 f e q
-after_listed n d fs hs pss b letter-S zs g p (ps, f, e, q) = (
+after_listed n d fs hs pss b letter_I zs g p t = absurd (no_factor n d fs b.ring b.factor p.1)
+after_listed n d fs hs pss b letter_L zs g p (h, f, e, q) = label_more n d fs hs pss h zs g b p.1 p.2 f e q
+after_listed n d fs hs pss b letter_S zs g p (ps, f, e, q) = (
   listed n d fs hs (pss ++ ps ∷ []),
   record { ring = b.ring; factor = b.factor; few = b.few; heads = b.heads; paired = (let k = length_push pss ps in omega arith); subdivisions = All-push (SubdivisionFits (kinds hs)) pss ps b.subdivisions f },
   q,
-  ap (λ t. ring_line n ∷ factor_line fs ∷ t) (ap (λ t. map head_line hs ++ t) (map_push subdivision_line pss ps ∙ ap (λ t. map subdivision_line pss ++ line letter-S t ∷ []) (sym e)) ∙ sym (append_assoc (map head_line hs) (map subdivision_line pss) (line letter-S zs ∷ []))),
+  ap (λ t. ring_line n ∷ factor_line fs ∷ t) (ap (λ t. map head_line hs ++ t) (map_push subdivision_line pss ps ∙ ap (λ t. map subdivision_line pss ++ line letter_S t ∷ []) (sym e)) ∙ sym (append_assoc (map head_line hs) (map subdivision_line pss) (line letter_S zs ∷ []))),
 )
-after_listed n d fs hs pss b letter-T zs g p (ss, f, e, q) = (
+after_listed n d fs hs pss b letter_T zs g p (ss, f, e, q) = (
   tiled n d fs hs pss [] ss [],
   (b, record { some = p.0; each = p.1 }, record { few = omega arith; tiles = tt; outline = f; room = omega arith; children = tt }),
   q,
-  ap (λ t. ring_line n ∷ factor_line fs ∷ t) (ap (λ t. map head_line hs ++ (map subdivision_line pss ++ line letter-T t ∷ [])) (sym e) ∙ sym (append_assoc (map head_line hs) (map subdivision_line pss) (line letter-T zs ∷ []))),
+  ap (λ t. ring_line n ∷ factor_line fs ∷ t) (ap (λ t. map head_line hs ++ (map subdivision_line pss ++ line letter_T t ∷ [])) (sym e) ∙ sym (append_assoc (map head_line hs) (map subdivision_line pss) (line letter_T zs ∷ []))),
 )
-after_listed n d fs hs pss b letter-C zs g p t = absurd (omega (arith, p.0))
-after_listed n d fs hs pss b letter-D zs g p t = absurd (omega arith)
-after_listed n d fs hs pss b letter-P zs g p t = absurd (false≢true p.0)
+after_listed n d fs hs pss b letter_C zs g p t = absurd (omega (arith, p.0))
+after_listed n d fs hs pss b letter_D zs g p t = absurd (omega arith)
+after_listed n d fs hs pss b letter_P zs g p t = absurd (false≢true p.0)
 
 -- lines of tiles with one more
 tiles_push : (ts : List TileNumbers) (t : TileNumbers) (more : List Line) → flat_map tile_lines (ts ++ t ∷ []) ++ more ≡ flat_map tile_lines ts ++ (tile_lines t ++ more)
@@ -178,50 +178,50 @@ tile_more n d hs ts ss cs o some = All-push (TileFits (kinds hs) n d) ts (tile s
 after_tiled : (n d : ℕ) (fs : List ℤ) (hs : List Head) (pss : List (List Part)) (ts : List TileNumbers) (ss : List Step) (cs : List PlacedNumbers) → Base n d fs hs pss → Divided hs pss → Open n d hs ts ss cs
     → (a : Letter) (zs : List ℤ) (g : Front) → Place (shape_front (tiled n d fs hs pss ts ss cs)) a → Takes (shape_front (tiled n d fs hs pss ts ss cs)) a zs g → Next (tiled n d fs hs pss ts ss cs) a zs g
 after_tiled n d fs hs pss ts ss cs b v o letter_R zs g p t = absurd (no_order n d b.ring p)
-after_tiled n d fs hs pss ts ss cs b v o letter-I zs g p t = absurd (no_factor n d fs b.ring b.factor p.1)
-after_tiled n d fs hs pss ts ss cs b v o letter-L zs g p t = absurd (no_label hs pss v p.1)
-after_tiled n d fs hs pss ts ss cs b v o letter-S zs g p t = absurd (no_subdivision hs pss v p)
-after_tiled n d fs hs pss ts ss cs b v o letter-T zs g p (rs, f, e, q) = ⊎_elim (λ k. absurd (outline_some (kinds hs) n ss o.outline k.0)) go p.2
+after_tiled n d fs hs pss ts ss cs b v o letter_I zs g p t = absurd (no_factor n d fs b.ring b.factor p.1)
+after_tiled n d fs hs pss ts ss cs b v o letter_L zs g p t = absurd (no_label hs pss v p.1)
+after_tiled n d fs hs pss ts ss cs b v o letter_S zs g p t = absurd (no_subdivision hs pss v p)
+after_tiled n d fs hs pss ts ss cs b v o letter_T zs g p (rs, f, e, q) = ⊎_elim (λ k. absurd (outline_some (kinds hs) n ss o.outline k.0)) go p.2
   where
-    go : (0 < length cs) × (length ts + 1 < most_tiles) → Next (tiled n d fs hs pss ts ss cs) letter-T zs g
+    go : (0 < length cs) × (length ts + 1 < most_tiles) → Next (tiled n d fs hs pss ts ss cs) letter_T zs g
     go (some, room) = (
       tiled n d fs hs pss (ts ++ tile ss cs ∷ []) rs [],
       (b, v, record { few = (let k = length_push ts (tile ss cs) in omega arith); tiles = tile_more n d hs ts ss cs o some; outline = f; room = omega arith; children = tt }),
       q ∙ ap (λ x. whole_front n d fs hs pss (ts ++ x) rs [] None []) (opened_some ss cs (outline_some (kinds hs) n ss o.outline)),
-      under n fs hs pss _ (flat_map tile_lines ts ++ tile_lines (tile ss cs)) (line letter-T zs)
-          (tiles_push ts (tile ss cs) (outline_line rs ∷ []) ∙ sym (append_assoc (flat_map tile_lines ts) (tile_lines (tile ss cs)) (outline_line rs ∷ [])) ∙ ap (λ x. (flat_map tile_lines ts ++ tile_lines (tile ss cs)) ++ line letter-T x ∷ []) (sym e)),
+      under n fs hs pss _ (flat_map tile_lines ts ++ tile_lines (tile ss cs)) (line letter_T zs)
+          (tiles_push ts (tile ss cs) (outline_line rs ∷ []) ∙ sym (append_assoc (flat_map tile_lines ts) (tile_lines (tile ss cs)) (outline_line rs ∷ [])) ∙ ap (λ x. (flat_map tile_lines ts ++ tile_lines (tile ss cs)) ++ line letter_T x ∷ []) (sym e)),
     )
-after_tiled n d fs hs pss ts ss cs b v o letter-C zs g p (c, f, e, q) = (
+after_tiled n d fs hs pss ts ss cs b v o letter_C zs g p (c, f, e, q) = (
   tiled n d fs hs pss ts ss (cs ++ c ∷ []),
   (b, v, record { few = o.few; tiles = o.tiles; outline = o.outline; room = (let k = length_push cs c in omega (arith, p.1)); children = All-push (PlacedFits n d) cs c o.children f }),
   q,
-  under n fs hs pss _ (flat_map tile_lines ts ++ tile_lines (tile ss cs)) (line letter-C zs)
-      (ap (λ x. flat_map tile_lines ts ++ outline_line ss ∷ x) (map_push child_line cs c ∙ ap (λ x. map child_line cs ++ line letter-C x ∷ []) (sym e)) ∙ sym (append_assoc (flat_map tile_lines ts) (tile_lines (tile ss cs)) (line letter-C zs ∷ []))),
+  under n fs hs pss _ (flat_map tile_lines ts ++ tile_lines (tile ss cs)) (line letter_C zs)
+      (ap (λ x. flat_map tile_lines ts ++ outline_line ss ∷ x) (map_push child_line cs c ∙ ap (λ x. map child_line cs ++ line letter_C x ∷ []) (sym e)) ∙ sym (append_assoc (flat_map tile_lines ts) (tile_lines (tile ss cs)) (line letter_C zs ∷ []))),
 )
-after_tiled n d fs hs pss ts ss cs b v o letter-D zs g p (depth, f, e, q) = (
+after_tiled n d fs hs pss ts ss cs b v o letter_D zs g p (depth, f, e, q) = (
   ended n d fs hs pss (ts ++ tile ss cs ∷ []) depth [],
   (b, v, record { some = (let k = length_push ts (tile ss cs) in omega arith); few = (let k = length_push ts (tile ss cs) in omega (arith, o.few)); tiles = tile_more n d hs ts ss cs o p; deep = f; room = omega arith; seeds = tt }),
   q ∙ ap (λ x. whole_front n d fs hs pss (ts ++ x) [] [] (Some depth) []) (opened_some ss cs (outline_some (kinds hs) n ss o.outline)),
-  under n fs hs pss _ (flat_map tile_lines ts ++ tile_lines (tile ss cs)) (line letter-D zs)
-      (tiles_push ts (tile ss cs) (depth_line depth ∷ []) ∙ sym (append_assoc (flat_map tile_lines ts) (tile_lines (tile ss cs)) (depth_line depth ∷ [])) ∙ ap (λ x. (flat_map tile_lines ts ++ tile_lines (tile ss cs)) ++ line letter-D x ∷ []) (sym e)),
+  under n fs hs pss _ (flat_map tile_lines ts ++ tile_lines (tile ss cs)) (line letter_D zs)
+      (tiles_push ts (tile ss cs) (depth_line depth ∷ []) ∙ sym (append_assoc (flat_map tile_lines ts) (tile_lines (tile ss cs)) (depth_line depth ∷ [])) ∙ ap (λ x. (flat_map tile_lines ts ++ tile_lines (tile ss cs)) ++ line letter_D x ∷ []) (sym e)),
 )
-after_tiled n d fs hs pss ts ss cs b v o letter-P zs g p t = absurd (false≢true p.0)
+after_tiled n d fs hs pss ts ss cs b v o letter_P zs g p t = absurd (false≢true p.0)
 
 after_ended : (n d : ℕ) (fs : List ℤ) (hs : List Head) (pss : List (List Part)) (ts : List TileNumbers) (depth : ℕ) (ps : List PlacedNumbers) → Base n d fs hs pss → Divided hs pss → Shut n d hs ts depth ps
     → (a : Letter) (zs : List ℤ) (g : Front) → Place (shape_front (ended n d fs hs pss ts depth ps)) a → Takes (shape_front (ended n d fs hs pss ts depth ps)) a zs g → Next (ended n d fs hs pss ts depth ps) a zs g
 after_ended n d fs hs pss ts depth ps b v o letter_R zs g p t = absurd (no_order n d b.ring p)
-after_ended n d fs hs pss ts depth ps b v o letter-I zs g p t = absurd (no_factor n d fs b.ring b.factor p.1)
-after_ended n d fs hs pss ts depth ps b v o letter-L zs g p t = absurd (no_label hs pss v p.1)
-after_ended n d fs hs pss ts depth ps b v o letter-S zs g p t = absurd (no_subdivision hs pss v p)
-after_ended n d fs hs pss ts depth ps b v o letter-T zs g p t = ⊎_elim (λ k. absurd (omega (arith, k.1, o.some))) (λ k. absurd (omega (arith, k.0))) p.2
-after_ended n d fs hs pss ts depth ps b v o letter-C zs g p t = absurd (omega (arith, p.0))
-after_ended n d fs hs pss ts depth ps b v o letter-D zs g p t = absurd (omega arith)
-after_ended n d fs hs pss ts depth ps b v o letter-P zs g p (c, f, e, q) = (
+after_ended n d fs hs pss ts depth ps b v o letter_I zs g p t = absurd (no_factor n d fs b.ring b.factor p.1)
+after_ended n d fs hs pss ts depth ps b v o letter_L zs g p t = absurd (no_label hs pss v p.1)
+after_ended n d fs hs pss ts depth ps b v o letter_S zs g p t = absurd (no_subdivision hs pss v p)
+after_ended n d fs hs pss ts depth ps b v o letter_T zs g p t = ⊎_elim (λ k. absurd (omega (arith, k.1, o.some))) (λ k. absurd (omega (arith, k.0))) p.2
+after_ended n d fs hs pss ts depth ps b v o letter_C zs g p t = absurd (omega (arith, p.0))
+after_ended n d fs hs pss ts depth ps b v o letter_D zs g p t = absurd (omega arith)
+after_ended n d fs hs pss ts depth ps b v o letter_P zs g p (c, f, e, q) = (
   ended n d fs hs pss ts depth (ps ++ c ∷ []),
   (b, v, record { some = o.some; few = o.few; tiles = o.tiles; deep = o.deep; room = (let k = length_push ps c in omega (arith, p.1)); seeds = All-push (SeedFits (length ts) n d) ps c o.seeds f }),
   q,
-  under n fs hs pss _ (flat_map tile_lines ts ++ depth_line depth ∷ map seed_line ps) (line letter-P zs)
-      (ap (λ x. flat_map tile_lines ts ++ depth_line depth ∷ x) (map_push seed_line ps c ∙ ap (λ x. map seed_line ps ++ line letter-P x ∷ []) (sym e)) ∙ sym (append_assoc (flat_map tile_lines ts) (depth_line depth ∷ map seed_line ps) (line letter-P zs ∷ []))),
+  under n fs hs pss _ (flat_map tile_lines ts ++ depth_line depth ∷ map seed_line ps) (line letter_P zs)
+      (ap (λ x. flat_map tile_lines ts ++ depth_line depth ∷ x) (map_push seed_line ps c ∙ ap (λ x. map seed_line ps ++ line letter_P x ∷ []) (sym e)) ∙ sym (append_assoc (flat_map tile_lines ts) (depth_line depth ∷ map seed_line ps) (line letter_P zs ∷ []))),
 )
 
 after : (s : Shape) → Fine s → (a : Letter) (zs : List ℤ) (g : Front) → Place (shape_front s) a → Takes (shape_front s) a zs g → Next s a zs g

@@ -6,8 +6,8 @@ use Rattle.lines.specs.Lines.{Line, line, spelt, text}
 use Rattle.lines.specs.Spelling.{word}
 use Rattle.exact.specs.JobNumbers.{Part as PartNumbers}
 use Rattle.jobs.specs.declared.rows.Label.{Label}
-use Rattle.jobs.specs.declared.rows.Part.{Part}
-use Rattle.jobs.specs.declared.rows.Step.{Step}
+use Rattle.job_rows.specs.declared.Part.{Part}
+use Rattle.job_rows.specs.declared.Step.{Step}
 use Rattle.jobs.specs.declared.rows.Placed.{Placed}
 use Rattle.jobs.specs.declared.rows.Tile.{Tile}
 use Rattle.jobs.specs.Fronts.{Head, labelled}

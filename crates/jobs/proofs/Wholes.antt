@@ -5,7 +5,7 @@ use native.Mathlib.Bridge.{le_prop}
 use Rattle.std.specs.List.{flat_map}
 use Rattle.std.proofs.lemmas.Bool.{cases_lt}
 use Rattle.lines.specs.Lines.{line, text, spelt}
-use Rattle.lines.specs.Letters.{letter_R, letter-I, letter-D}
+use Rattle.lines.specs.Letters.{letter_R, letter_I, letter_D}
 use Rattle.lines.specs.Spelling.{word}
 use Rattle.exact.specs.JobNumbers.{LabelNumbers}
 use Rattle.jobs.specs.declared.job.Job.{Job}
@@ -31,7 +31,7 @@ job_text j =
     let hs = map head_of (vec_items j.labels) in
     let pss = map (λ v. map part_of (vec_items v)) (vec_items j.subdivisions) in
     let ls = labelled hs pss in
-    let tail = line letter-D (pos j.depth ∷ []) ∷ map seed_line (map placed_of (vec_items j.seeds)) in
+    let tail = line letter_D (pos j.depth ∷ []) ∷ map seed_line (map placed_of (vec_items j.seeds)) in
     let tiles = flat_map tile_lines (map tile_of (vec_items j.tiles)) in
     let subs = map (λ (l : LabelNumbers). subdivision_line l.subdivision) ls in
     seven (82 ∷ ((32 ∷ decimal j.order) ++ 10 ∷ [])) (73 ∷ (flat_map word (vec_items j.factor) ++ 10 ∷ [])) (flat_map label_text (vec_items j.labels)) (flat_map (λ v. parts_text (vec_items v)) (vec_items j.subdivisions)) (flat_map tile_text (vec_items j.tiles)) (68 ∷ ((32 ∷ decimal j.depth) ++ 10 ∷ [])) (flat_map (placed_text 80) (vec_items j.seeds)) ∙ sym (

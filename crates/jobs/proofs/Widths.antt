@@ -5,7 +5,7 @@ use Rattle.std.proofs.lemmas.Fmt.{length-decimal-le}
 use Rattle.std.proofs.ByRecursion.{All-append, All-map, All-weaker}
 use Rattle.std.proofs.lemmas.List.{length-append, length-map}
 use Rattle.exact.specs.JobNumbers.{JobNumbers, LabelNumbers, TileNumbers, PlacedNumbers, Part, Step}
-use Rattle.lines.specs.Letters.{letter_R, letter-I, letter-D}
+use Rattle.lines.specs.Letters.{letter_R, letter_I, letter_D}
 use Rattle.lines.specs.Lines.{Line, line, text, spelt, WellSpelt}
 use Rattle.lines.specs.Spelling.{Short, word}
 use Rattle.jobs.specs.Limits.{Ring, most_bytes}
@@ -155,13 +155,13 @@ job_fits j i =
     let hk : length ks ≤ 8 = omega (arith, s.few_labels) in
     let r = s.ring in
     let wr : Within 1 (line letter_R (pos j.order ∷ [])) = record { tiny = ((let m = order_few j.order j.rank r in omega arith), tt); few = omega arith } in
-    let wi : Within 4 (line letter-I j.factor) = record { tiny = tiny_element j.factor s.factor.1; few = (let m = rank_few j.order j.rank r in omega (arith, s.factor.0)) } in
+    let wi : Within 4 (line letter_I j.factor) = record { tiny = tiny_element j.factor s.factor.1; few = (let m = rank_few j.order j.rank r in omega (arith, s.factor.0)) } in
     let wl = labels_within ks j.order j.rank j.labels r s.labels in
     let ws = subdivisions_within ks j.rank j.labels hk s.labels in
     let wt = tiles_within ks j.order j.rank (length j.tiles) j.tiles hk s.few_tiles r s.tiles i.named in
-    let wd : Within 1 (line letter-D (pos j.depth ∷ [])) = record { tiny = (omega (arith, s.depth), tt); few = omega arith } in
+    let wd : Within 1 (line letter_D (pos j.depth ∷ [])) = record { tiny = (omega (arith, s.depth), tt); few = omega arith } in
     let wp = seeds_within j.order j.rank (length j.tiles) j.seeds r s.few_tiles s.seeds in
-    let tail = line letter-D (pos j.depth ∷ []) ∷ map seed_line j.seeds in
+    let tail = line letter_D (pos j.depth ∷ []) ∷ map seed_line j.seeds in
     let subs = map (λ (l : LabelNumbers). subdivision_line l.subdivision) j.labels in
     record {
       spelt = (
@@ -174,7 +174,7 @@ job_fits j i =
               (short_of 1 _ wd, All-weaker (Within 7) WellSpelt (short_of 7) (map seed_line j.seeds) wp))),
         ),
       );
-      short = total (length (spelt letter_R (pos j.order ∷ []))) (length (spelt letter-I j.factor)) (length (text (map label_line j.labels))) (length (text subs)) (length (text (flat_map tile_lines j.tiles))) (length (spelt letter-D (pos j.depth ∷ []))) (length (text (map seed_line j.seeds)))
+      short = total (length (spelt letter_R (pos j.order ∷ []))) (length (spelt letter_I j.factor)) (length (text (map label_line j.labels))) (length (text subs)) (length (text (flat_map tile_lines j.tiles))) (length (spelt letter_D (pos j.depth ∷ []))) (length (text (map seed_line j.seeds)))
           (length (spelled j))
           (length_line 1 _ wr) (length_line 4 _ wi)
           (let a = length_all 5 22 (map label_line j.labels) (omega arith) wl in let b = length-map j.labels label_line in omega (arith, s.few_labels))
@@ -182,13 +182,13 @@ job_fits j i =
           (omega (arith, wt.bytes, s.few_tiles))
           (length_line 1 _ wd)
           (let a = length_all 7 30 (map seed_line j.seeds) (omega arith) wp in let b = length-map j.seeds seed_line in omega (arith, s.few_seeds))
-          (let a = length-append (spelt letter_R (pos j.order ∷ [])) (text (line letter-I j.factor ∷ (map label_line j.labels ++ (subs ++ (flat_map tile_lines j.tiles ++ tail))))) in
-          let b = length-append (spelt letter-I j.factor) (text (map label_line j.labels ++ (subs ++ (flat_map tile_lines j.tiles ++ tail)))) in
+          (let a = length-append (spelt letter_R (pos j.order ∷ [])) (text (line letter_I j.factor ∷ (map label_line j.labels ++ (subs ++ (flat_map tile_lines j.tiles ++ tail))))) in
+          let b = length-append (spelt letter_I j.factor) (text (map label_line j.labels ++ (subs ++ (flat_map tile_lines j.tiles ++ tail)))) in
           let c = length_text (map label_line j.labels) (subs ++ (flat_map tile_lines j.tiles ++ tail)) in
           let d = length_text subs (flat_map tile_lines j.tiles ++ tail) in
           let e = length_text (flat_map tile_lines j.tiles) tail in
-          let f = length-append (spelt letter-D (pos j.depth ∷ [])) (text (map seed_line j.seeds)) in
-          a ∙ ap (λ x. length (spelt letter_R (pos j.order ∷ [])) + x) (b ∙ ap (λ x. length (spelt letter-I j.factor) + x) (c ∙ ap (λ x. length (text (map label_line j.labels)) + x) (d ∙ ap (λ x. length (text subs) + x) (e ∙ ap (λ x. length (text (flat_map tile_lines j.tiles)) + x) f)))));
+          let f = length-append (spelt letter_D (pos j.depth ∷ [])) (text (map seed_line j.seeds)) in
+          a ∙ ap (λ x. length (spelt letter_R (pos j.order ∷ [])) + x) (b ∙ ap (λ x. length (spelt letter_I j.factor) + x) (c ∙ ap (λ x. length (text (map label_line j.labels)) + x) (d ∙ ap (λ x. length (text subs) + x) (e ∙ ap (λ x. length (text (flat_map tile_lines j.tiles)) + x) f)))));
     }
   where
     total : (r i l s t d p w : ℕ) → r ≤ 6 → i ≤ 18 → l ≤ 176 → s ≤ 528 → t ≤ 5008 → d ≤ 6 → p ≤ 480 → w ≡ r + (i + (l + (s + (t + (d + p))))) → w ≤ most_bytes

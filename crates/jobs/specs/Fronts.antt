@@ -3,7 +3,7 @@ use Rattle.std.specs.Prelude.{◌≡◌, ℕ, ◌+◌, ◌<◌, ◌≤◌, Bool,
 use Rattle.std.specs.Option.{unwrap_or}
 use Rattle.std.specs.List.{flat_map}
 use Rattle.exact.specs.JobNumbers.{JobNumbers, LabelNumbers, TileNumbers, PlacedNumbers, Part, Step}
-use Rattle.lines.specs.Letters.{Letter, letter_R, letter-I, letter-L, letter-S, letter-T, letter-C, letter-D, letter-P}
+use Rattle.lines.specs.Letters.{Letter, letter_R, letter_I, letter_L, letter_S, letter_T, letter_C, letter_D, letter_P}
 use Rattle.lines.specs.Lines.{Line}
 use Rattle.jobs.specs.Limits.{Ring, most_labels, most_tiles, most_children, most_depth, most_seeds}
 use Rattle.jobs.specs.Ranges.{Element, PlacedFits, SeedFits, SubdivisionFits, OutlineFits}
@@ -38,15 +38,15 @@ kinds f = map (λ (h : Head). h.arrowed) f.heads
 -- which letter may come next
 abbrev pub Place : Front → Letter → Type 0
 Place f letter_R = f.order ≡ 0
-Place f letter-I = (0 < f.order) × (length f.factor ≡ 0)
-Place f letter-L = (0 < length f.factor) × (length f.subdivisions ≡ 0) × (length f.heads < most_labels)
-Place f letter-S = length f.subdivisions < length f.heads
+Place f letter_I = (0 < f.order) × (length f.factor ≡ 0)
+Place f letter_L = (0 < length f.factor) × (length f.subdivisions ≡ 0) × (length f.heads < most_labels)
+Place f letter_S = length f.subdivisions < length f.heads
 -- each label has its subdivision; it is the first tile, or the tile before it has a child
-Place f letter-T = (0 < length f.heads) × (length f.subdivisions ≡ length f.heads)
+Place f letter_T = (0 < length f.heads) × (length f.subdivisions ≡ length f.heads)
     × (((length f.outline ≡ 0) × (length f.tiles ≡ 0)) ⊎ ((0 < length f.children) × (length f.tiles + 1 < most_tiles)))
-Place f letter-C = (0 < length f.outline) × (length f.children < most_children)
-Place f letter-D = 0 < length f.children
-Place f letter-P = (is_some f.depth ≡ true) × (length f.seeds < most_seeds)
+Place f letter_C = (0 < length f.outline) × (length f.children < most_children)
+Place f letter_D = 0 < length f.children
+Place f letter_P = (is_some f.depth ≡ true) × (length f.seeds < most_seeds)
 
 -- where the text may end
 abbrev pub Complete : Front → Type 0
@@ -88,13 +88,13 @@ with_seed f p = record { order = f.order; rank = f.rank; factor = f.factor; head
 -- the numbers zs fit after the letter, and g is the front with that line
 abbrev pub Takes : Front → Letter → List ℤ → Front → Type 0
 Takes f letter_R zs g = (n : ℕ) × (d : ℕ) × Ring n d × (zs ≡ pos n ∷ []) × (g ≡ with_ring f n d)
-Takes f letter-I zs g = Element f.rank zs × (g ≡ with_factor f zs)
-Takes f letter-L zs g = (h : Head) × Element f.rank h.length × (zs ≡ label_numbers h.arrowed h.length) × (g ≡ with_label f h)
-Takes f letter-S zs g = (ps : List Part) × SubdivisionFits (kinds f) ps × (zs ≡ flat_map part_numbers ps) × (g ≡ with_subdivision f ps)
-Takes f letter-T zs g = (ss : List Step) × OutlineFits (kinds f) f.order ss × (zs ≡ flat_map step_numbers ss) × (g ≡ with_tile f ss)
-Takes f letter-C zs g = (p : PlacedNumbers) × PlacedFits f.order f.rank p × (zs ≡ placed_numbers p) × (g ≡ with_child f p)
-Takes f letter-D zs g = (n : ℕ) × (n ≤ most_depth) × (zs ≡ pos n ∷ []) × (g ≡ with_depth f n)
-Takes f letter-P zs g = (p : PlacedNumbers) × SeedFits (length f.tiles) f.order f.rank p × (zs ≡ placed_numbers p) × (g ≡ with_seed f p)
+Takes f letter_I zs g = Element f.rank zs × (g ≡ with_factor f zs)
+Takes f letter_L zs g = (h : Head) × Element f.rank h.length × (zs ≡ label_numbers h.arrowed h.length) × (g ≡ with_label f h)
+Takes f letter_S zs g = (ps : List Part) × SubdivisionFits (kinds f) ps × (zs ≡ flat_map part_numbers ps) × (g ≡ with_subdivision f ps)
+Takes f letter_T zs g = (ss : List Step) × OutlineFits (kinds f) f.order ss × (zs ≡ flat_map step_numbers ss) × (g ≡ with_tile f ss)
+Takes f letter_C zs g = (p : PlacedNumbers) × PlacedFits f.order f.rank p × (zs ≡ placed_numbers p) × (g ≡ with_child f p)
+Takes f letter_D zs g = (n : ℕ) × (n ≤ most_depth) × (zs ≡ pos n ∷ []) × (g ≡ with_depth f n)
+Takes f letter_P zs g = (p : PlacedNumbers) × SeedFits (length f.tiles) f.order f.rank p × (zs ≡ placed_numbers p) × (g ≡ with_seed f p)
 
 -- the line comes next, and leads from f to g
 abbrev pub Steps : Front → Line → Front → Type 0

@@ -1,7 +1,7 @@
 -- When a text is refused, with which number and at which line.
 use Rattle.std.specs.Prelude.{◌≡◌, ℕ, suc, ◌+◌, ◌<◌, ◌≤◌, Bool, true, false, cond, ◌⊎◌, List, [], ◌∷◌, ◌++◌, length, ℤ, pos, negsuc, Some, None, Option, nat_le}
 use Rattle.std.specs.List.{AllByRecursion}
-use Rattle.lines.specs.Letters.{Letter, letter_R, letter-I, letter-L, letter-S, letter-T, letter-C, letter-D, letter-P}
+use Rattle.lines.specs.Letters.{Letter, letter_R, letter_I, letter_L, letter_S, letter_T, letter_C, letter_D, letter_P}
 use Rattle.lines.specs.Lines.{Line, text, WellSpelt, FirstLine}
 use Rattle.jobs.specs.Limits.{most_bytes}
 use Rattle.jobs.specs.Fronts.{Front, nothing, Place, Complete, Takes, Leads}
@@ -20,13 +20,13 @@ beyond_child tiles (negsuc n ∷ zs) = false
 
 abbrev pub beyond : ℕ → Letter → List ℤ → Bool
 beyond tiles letter_R zs = false
-beyond tiles letter-I zs = false
-beyond tiles letter-L zs = false
-beyond tiles letter-S zs = false
-beyond tiles letter-T zs = false
-beyond tiles letter-C zs = beyond_child tiles zs
-beyond tiles letter-D zs = false
-beyond tiles letter-P zs = false
+beyond tiles letter_I zs = false
+beyond tiles letter_L zs = false
+beyond tiles letter_S zs = false
+beyond tiles letter_T zs = false
+beyond tiles letter_C zs = beyond_child tiles zs
+beyond tiles letter_D zs = false
+beyond tiles letter_P zs = false
 
 -- the number of the first such line, where the lines are numbered from k
 abbrev pub first_beyond : ℕ → ℕ → List Line → Option ℕ

@@ -1,19 +1,19 @@
 -- The bytes of rows, with their letters where they are whole lines.
 use Rattle.std.specs.Prelude.{ℕ, List, [], ◌∷◌, ◌++◌, vec_items}
 use Rattle.std.specs.List.{flat_map}
-use Rattle.lines.specs.Letters.{letter-L}
+use Rattle.lines.specs.Letters.{letter_L}
 use Rattle.lines.specs.Lines.{spelt}
 use Rattle.lines.specs.Spelling.{word}
 use Rattle.jobs.specs.declared.rows.Label.{Label}
-use Rattle.jobs.specs.declared.rows.Part.{Part}
-use Rattle.jobs.specs.declared.rows.Step.{Step}
+use Rattle.job_rows.specs.declared.Part.{Part}
+use Rattle.job_rows.specs.declared.Step.{Step}
 use Rattle.jobs.specs.declared.rows.Placed.{Placed}
 use Rattle.jobs.specs.declared.rows.Tile.{Tile}
 use Rattle.jobs.specs.Rows.{part_of, step_of, placed_of}
 use Rattle.jobs.specs.Spelled.{label_numbers, part_numbers, step_numbers, placed_numbers}
 
 abbrev pub label_text : Label → List ℕ
-label_text l = spelt letter-L (label_numbers l.arrowed (vec_items l.length))
+label_text l = spelt letter_L (label_numbers l.arrowed (vec_items l.length))
 
 abbrev pub part_text : Part → List ℕ
 part_text p = flat_map word (part_numbers (part_of p))

@@ -2,8 +2,8 @@
 use Rattle.std.specs.Prelude.{ℕ, List, map, ℤ, vec_items}
 use Rattle.exact.specs.JobNumbers.{Part, Step, PlacedNumbers, TileNumbers}
 use Rattle.jobs.specs.declared.rows.Label.{Label}
-use Rattle.jobs.specs.declared.rows.Part.{Part as PartRow}
-use Rattle.jobs.specs.declared.rows.Step.{Step as StepRow}
+use Rattle.job_rows.specs.declared.Part.{Part as PartRow}
+use Rattle.job_rows.specs.declared.Step.{Step as StepRow}
 use Rattle.jobs.specs.declared.rows.Placed.{Placed}
 use Rattle.jobs.specs.declared.rows.Tile.{Tile}
 use Rattle.jobs.specs.Fronts.{Head}

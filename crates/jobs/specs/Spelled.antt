@@ -2,7 +2,7 @@
 use Rattle.std.specs.Prelude.{ℕ, Bool, true, false, List, [], ◌∷◌, ◌++◌, map, ℤ, pos}
 use Rattle.std.specs.List.{flat_map}
 use Rattle.exact.specs.JobNumbers.{JobNumbers, LabelNumbers, TileNumbers, PlacedNumbers, Part, Step}
-use Rattle.lines.specs.Letters.{letter_R, letter-I, letter-L, letter-S, letter-T, letter-C, letter-D, letter-P}
+use Rattle.lines.specs.Letters.{letter_R, letter_I, letter_L, letter_S, letter_T, letter_C, letter_D, letter_P}
 use Rattle.lines.specs.Lines.{Line, line, text}
 
 -- a mark: 1 for true, 0 for false
@@ -23,19 +23,19 @@ abbrev pub placed_numbers : PlacedNumbers → List ℤ
 placed_numbers p = pos p.tile ∷ pos p.turn ∷ mark p.mirrored ∷ p.place
 
 abbrev pub label_line : LabelNumbers → Line
-label_line l = line letter-L (label_numbers l.arrowed l.length)
+label_line l = line letter_L (label_numbers l.arrowed l.length)
 
 abbrev pub subdivision_line : List Part → Line
-subdivision_line ps = line letter-S (flat_map part_numbers ps)
+subdivision_line ps = line letter_S (flat_map part_numbers ps)
 
 abbrev pub outline_line : List Step → Line
-outline_line ss = line letter-T (flat_map step_numbers ss)
+outline_line ss = line letter_T (flat_map step_numbers ss)
 
 abbrev pub child_line : PlacedNumbers → Line
-child_line p = line letter-C (placed_numbers p)
+child_line p = line letter_C (placed_numbers p)
 
 abbrev pub seed_line : PlacedNumbers → Line
-seed_line p = line letter-P (placed_numbers p)
+seed_line p = line letter_P (placed_numbers p)
 
 -- a T line with the C lines of its children
 abbrev pub tile_lines : TileNumbers → List Line
@@ -43,9 +43,9 @@ tile_lines t = outline_line t.outline ∷ map child_line t.children
 
 abbrev pub lines_of : JobNumbers → List Line
 lines_of j =
-    line letter_R (pos j.order ∷ []) ∷ line letter-I j.factor ∷
+    line letter_R (pos j.order ∷ []) ∷ line letter_I j.factor ∷
     (map label_line j.labels ++ (map (λ (l : LabelNumbers). subdivision_line l.subdivision) j.labels
-    ++ (flat_map tile_lines j.tiles ++ line letter-D (pos j.depth ∷ []) ∷ map seed_line j.seeds)))
+    ++ (flat_map tile_lines j.tiles ++ line letter_D (pos j.depth ∷ []) ∷ map seed_line j.seeds)))
 
 -- the text of a job
 abbrev pub spelled : JobNumbers → List ℕ

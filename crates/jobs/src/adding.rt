@@ -1,7 +1,7 @@
 // One line more: each letter where it has its place, with numbers that fit.
 ghost use Rattle.std.specs.Prelude.{◌≡◌, Decides, MatchResult};
 ghost use Rattle.jobs.specs.declared.draft.Misfit.TheVariants.{Memory};
-ghost use Rattle.lines.specs.Letters.{letter, letter_R, letter-I, letter-L, letter-S, letter-T, letter-C, letter-D, letter-P};
+ghost use Rattle.lines.specs.Letters.{letter, letter_R, letter_I, letter_L, letter_S, letter_T, letter_C, letter_D, letter_P};
 ghost use Rattle.jobs.specs.Drafts.{front, Added};
 ghost use Rattle.jobs.specs.Fronts.{Place, closed};
 
@@ -28,7 +28,7 @@ fn add_ring(draft: &mut Draft, ns: &[i64]) -> Result<(), Misfit>
 }
 
 fn add_factor(draft: &mut Draft, ns: &[i64]) -> Result<(), Misfit>
-    ensures { Added (front draft.old) letter-I ns.now result (front draft.new) }
+    ensures { Added (front draft.old) letter_I ns.now result (front draft.new) }
 {
     if draft.order == 0 || draft.factor.len() > 0 {
         return Err(Misfit::Place);
@@ -41,7 +41,7 @@ fn add_factor(draft: &mut Draft, ns: &[i64]) -> Result<(), Misfit>
 }
 
 fn add_label(heap: Global, draft: &mut Draft, ns: &[i64]) -> Result<(), Misfit>
-    ensures { Added (front draft.old) letter-L ns.now result (front draft.new) }
+    ensures { Added (front draft.old) letter_L ns.now result (front draft.new) }
 {
     if draft.factor.len() == 0
         || draft.subdivisions.len() > 0
@@ -55,7 +55,7 @@ fn add_label(heap: Global, draft: &mut Draft, ns: &[i64]) -> Result<(), Misfit>
 }
 
 fn add_subdivision(heap: Global, draft: &mut Draft, ns: &[i64]) -> Result<(), Misfit>
-    ensures { Added (front draft.old) letter-S ns.now result (front draft.new) }
+    ensures { Added (front draft.old) letter_S ns.now result (front draft.new) }
 {
     if draft.subdivisions.len() >= draft.labels.len() {
         return Err(Misfit::Place);
@@ -66,7 +66,7 @@ fn add_subdivision(heap: Global, draft: &mut Draft, ns: &[i64]) -> Result<(), Mi
 }
 
 fn add_child(heap: Global, draft: &mut Draft, ns: &[i64]) -> Result<(), Misfit>
-    ensures { Added (front draft.old) letter-C ns.now result (front draft.new) }
+    ensures { Added (front draft.old) letter_C ns.now result (front draft.new) }
 {
     if draft.outline.len() == 0 || draft.children.len() >= MOST_CHILDREN {
         return Err(Misfit::Place);
@@ -77,7 +77,7 @@ fn add_child(heap: Global, draft: &mut Draft, ns: &[i64]) -> Result<(), Misfit>
 }
 
 fn add_seed(heap: Global, draft: &mut Draft, ns: &[i64]) -> Result<(), Misfit>
-    ensures { Added (front draft.old) letter-P ns.now result (front draft.new) }
+    ensures { Added (front draft.old) letter_P ns.now result (front draft.new) }
 {
     if draft.depth.is_none() || draft.seeds.len() >= MOST_SEEDS {
         return Err(Misfit::Place);
@@ -92,7 +92,7 @@ fn add_seed(heap: Global, draft: &mut Draft, ns: &[i64]) -> Result<(), Misfit>
 
 // Whether a T line may come: each label has its subdivision, and it is the first tile or the open one has a child.
 fn tile_has_place(draft: &Draft) -> bool
-    ensures { Decides result (Place (front draft.now) letter-T) }
+    ensures { Decides result (Place (front draft.now) letter_T) }
 {
     let labels = draft.labels.len();
     let subdivisions = draft.subdivisions.len();
@@ -124,7 +124,7 @@ fn close_tile(heap: Global, draft: &mut Draft) -> Result<(), Misfit>
 }
 
 fn add_tile(heap: Global, draft: &mut Draft, ns: &[i64]) -> Result<(), Misfit>
-    ensures { Added (front draft.old) letter-T ns.now result (front draft.new) }
+    ensures { Added (front draft.old) letter_T ns.now result (front draft.new) }
 {
     if !tile_has_place(draft) {
         return Err(Misfit::Place);
@@ -136,7 +136,7 @@ fn add_tile(heap: Global, draft: &mut Draft, ns: &[i64]) -> Result<(), Misfit>
 }
 
 fn add_depth(heap: Global, draft: &mut Draft, ns: &[i64]) -> Result<(), Misfit>
-    ensures { Added (front draft.old) letter-D ns.now result (front draft.new) }
+    ensures { Added (front draft.old) letter_D ns.now result (front draft.new) }
 {
     if draft.children.len() == 0 {
         return Err(Misfit::Place);

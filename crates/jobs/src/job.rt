@@ -12,14 +12,14 @@ mod write;
 // Label i has subdivision i.
 #[derive(Drop)]
 pub struct Job {
-    order: u32,
-    rank: usize,
-    factor: Vec<i64>,
-    labels: Vec<Label>,
-    subdivisions: Vec<Vec<Part>>,
-    tiles: Vec<Tile>,
-    depth: u32,
-    seeds: Vec<Placed>,
+    pub order: u32,
+    pub rank: usize,
+    pub factor: Vec<i64>,
+    pub labels: Vec<Label>,
+    pub subdivisions: Vec<Vec<Part>>,
+    pub tiles: Vec<Tile>,
+    pub depth: u32,
+    pub seeds: Vec<Placed>,
     ghost paired: { length subdivisions.items ≤ length labels.items },
     ghost in_range: { ∥ InRange (numbers_of order rank factor.items (map head_of labels.items) (map (λ v. map part_of v.items) subdivisions.items) (map tile_of tiles.items) depth (map placed_of seeds.items)) ∥₁ },
 }

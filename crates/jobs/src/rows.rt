@@ -1,25 +1,12 @@
-// The rows of a job: numbers only, with no meaning in a ring.
+// The rows of a job: numbers only, with no meaning in a ring. A part is a label with a sense, in a subdivision; a step of
+// an outline has a direction too, in parts of a turn.
+pub use job_rows::{Part, Step};
 
 // An edge label: arrowed or plain, and its length as coefficients.
 #[derive(Drop)]
 pub struct Label {
     pub arrowed: bool,
     pub length: Vec<i64>,
-}
-
-// A label with a sense, in a subdivision.
-#[derive(Clone, Copy, PartialEq, Eq)]
-pub struct Part {
-    pub label: usize,
-    pub forward: bool,
-}
-
-// A step of an outline: a label with a sense, and a direction in parts of a turn.
-#[derive(Clone, Copy, PartialEq, Eq)]
-pub struct Step {
-    pub label: usize,
-    pub forward: bool,
-    pub direction: u32,
 }
 
 // A tile turned, mirrored or not, and brought to a place: a child, or a seed tile.

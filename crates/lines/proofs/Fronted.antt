@@ -5,7 +5,7 @@ use Rattle.std.proofs.lemmas.Fmt.{digits_decimal}
 use Rattle.std.proofs.ByRecursion.{All-append, All-from_get_or}
 use Rattle.std.proofs.lemmas.List.{length-append}
 use Rattle.lines.specs.declared.Kind.{Kind}
-use Rattle.lines.specs.Letters.{Letter, letter_R, letter-I, letter-L, letter-S, letter-T, letter-C, letter-D, letter-P, letter, byte, after, Lettered}
+use Rattle.lines.specs.Letters.{Letter, letter_R, letter_I, letter_L, letter_S, letter_T, letter_C, letter_D, letter_P, letter, byte, after, Lettered}
 use Rattle.lines.specs.Lines.{Inside, Cut, Line, spelt, text, WellSpelt, FirstLine}
 use Rattle.lines.specs.Spelling.{Few, Short, word, Word, Words}
 use Rattle.lines.proofs.Decimal.{own, word_unique}
@@ -37,27 +37,27 @@ clear_words (z ∷ zs) s = All-append (λ b. b ≡ 10 → ⊥) (word z) (flat_ma
 
 pub clear_letter : (a : Letter) → byte a ≡ 10 → ⊥
 clear_letter letter_R e = omega arith
-clear_letter letter-I e = omega arith
-clear_letter letter-L e = omega arith
-clear_letter letter-S e = omega arith
-clear_letter letter-T e = omega arith
-clear_letter letter-C e = omega arith
-clear_letter letter-D e = omega arith
-clear_letter letter-P e = omega arith
+clear_letter letter_I e = omega arith
+clear_letter letter_L e = omega arith
+clear_letter letter_S e = omega arith
+clear_letter letter_T e = omega arith
+clear_letter letter_C e = omega arith
+clear_letter letter_D e = omega arith
+clear_letter letter_P e = omega arith
 
 -- the letter that a byte spells
 abbrev of_byte : ℕ → Letter
-of_byte n = cond (eqb n 82) letter_R (cond (eqb n 73) letter-I (cond (eqb n 76) letter-L (cond (eqb n 83) letter-S (cond (eqb n 84) letter-T (cond (eqb n 67) letter-C (cond (eqb n 68) letter-D letter-P))))))
+of_byte n = cond (eqb n 82) letter_R (cond (eqb n 73) letter_I (cond (eqb n 76) letter_L (cond (eqb n 83) letter_S (cond (eqb n 84) letter_T (cond (eqb n 67) letter_C (cond (eqb n 68) letter_D letter_P))))))
 
 of_byte_byte : (a : Letter) → of_byte (byte a) ≡ a
 of_byte_byte letter_R = refl
-of_byte_byte letter-I = refl
-of_byte_byte letter-L = refl
-of_byte_byte letter-S = refl
-of_byte_byte letter-T = refl
-of_byte_byte letter-C = refl
-of_byte_byte letter-D = refl
-of_byte_byte letter-P = refl
+of_byte_byte letter_I = refl
+of_byte_byte letter_L = refl
+of_byte_byte letter_S = refl
+of_byte_byte letter_T = refl
+of_byte_byte letter_C = refl
+of_byte_byte letter_D = refl
+of_byte_byte letter_P = refl
 
 pub byte_inj : (a b : Letter) → byte a ≡ byte b → a ≡ b
 byte_inj a b e = sym (of_byte_byte a) ∙ ap of_byte e ∙ of_byte_byte b

@@ -4,29 +4,29 @@ use Rattle.lines.specs.declared.Kind.{Kind}
 use Rattle.lines.specs.declared.Kind.TheVariants.{Ring, Factor, Label, Subdivision, Tile, Child, Depth, Seed}
 
 pub data Letter : Type 0 where
-  letter_R letter-I letter-L letter-S letter-T letter-C letter-D letter-P : Letter
+  letter_R letter_I letter_L letter_S letter_T letter_C letter_D letter_P : Letter
 
 -- the byte that spells it
 abbrev pub byte : Letter → ℕ
 byte letter_R = 82
-byte letter-I = 73
-byte letter-L = 76
-byte letter-S = 83
-byte letter-T = 84
-byte letter-C = 67
-byte letter-D = 68
-byte letter-P = 80
+byte letter_I = 73
+byte letter_L = 76
+byte letter_S = 83
+byte letter_T = 84
+byte letter_C = 67
+byte letter_D = 68
+byte letter_P = 80
 
 -- the letter of a line's kind, and what follows the letter
 abbrev pub letter : Kind → Letter
 letter (Ring _) = letter_R
-letter (Factor _) = letter-I
-letter (Label _) = letter-L
-letter (Subdivision _) = letter-S
-letter (Tile _) = letter-T
-letter (Child _) = letter-C
-letter (Depth _) = letter-D
-letter (Seed _) = letter-P
+letter (Factor _) = letter_I
+letter (Label _) = letter_L
+letter (Subdivision _) = letter_S
+letter (Tile _) = letter_T
+letter (Child _) = letter_C
+letter (Depth _) = letter_D
+letter (Seed _) = letter_P
 
 abbrev pub after : Kind → List ℕ
 after (Ring r) = r.now

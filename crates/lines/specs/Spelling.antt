@@ -16,7 +16,7 @@ abbrev pub Ends : List ℕ → Type 0
 Ends [] = Unit {0}
 Ends (b ∷ bs) = b ≡ 32
 
--- a number after its space; `signed` writes no leading zero, no plus and no -0
+-- a number after its space; `signed_decimal` writes no leading zero, no plus and no -0
 abbrev pub word : ℤ → List ℕ
 word z = 32 ∷ signed_decimal z
 

@@ -1,7 +1,7 @@
 // Z[ζ10] on the plane.
 #![tactic(auto)]
 
-ghost use Rattle.std.specs.Prelude.{◌≡◌, ◌+◌, ◌*◌, [], ◌∷◌, ℤ, pos, ◌+ℤ◌, ◌-ℤ◌, ◌*ℤ◌, neg_ℤ, ◌≤ℤ◌};
+ghost use Rattle.std.specs.Prelude.{◌≡◌, refl, ◌+◌, ◌*◌, [], ◌∷◌, ℤ, pos, ◌+ℤ◌, ◌-ℤ◌, ◌*ℤ◌, neg_ℤ, ◌≤ℤ◌};
 ghost use Rattle.exact.specs.Cyclotomic.{same_element};
 ghost use Rattle.exact.specs.Residues.{totals};
 ghost use Rattle.exact.specs.Signs.{surd_sign, golden_sign};
@@ -11,7 +11,6 @@ ghost use Rattle.exact.specs.Models.{tenfold};
 ghost use Rattle.rings.specs.Plane.{plane_bound, height_bound, products};
 ghost use Rattle.rings.specs.Answers.{Exactly, HeightOf};
 ghost use Rattle.std.specs.Cmp.{on_per};
-ghost use Rattle.std.proofs.Common.{rules, arith};
 ghost use Rattle.exact.proofs.Equality.{same_element_partial_equivalence};
 ghost use Rattle.exact.proofs.Totals.{totals_laws, row_ends};
 ghost use Rattle.exact.proofs.TenfoldLaws.{tenfold_laws};
@@ -258,13 +257,13 @@ impl Ring for Tenfold {
 
     ghost lawful = { tenfold_laws };
 
-    ghost bounded = { first_of (Prim.search rules, Prim.grind (arith, Self.row.coded.inj)) };
+    ghost bounded = { λ z. (z.near0, (z.near1, (z.near2, (z.near3, tt)))) };
 
-    ghost decided = { first_of (Prim.search rules, Prim.grind (arith, Self.row.coded.inj)) };
+    ghost decided = { λ a b t e. e };
 
-    ghost listed_row = { first_of (Prim.search rules, Prim.grind (arith, Self.row.coded.inj)) };
+    ghost listed_row = { λ x. refl };
 
-    ghost row_listed = { first_of (Prim.search rules, Prim.grind (arith, Self.row.coded.inj)) };
+    ghost row_listed = { λ p. refl };
 
     ghost tied = { record { zero = λ s e. e; sum = λ s t u e. e; opposite = λ s t e. e } };
 

@@ -1,6 +1,6 @@
 use Rattle.std.proofs.Common.{◌≡◌, false, sym, refl, ◌∙◌, arith, below_more}
 use mathlib.Core.Bool.{false≢true}
-use Rattle.edges.specs.declared.rows.Part.{Part}
+use Rattle.job_rows.specs.declared.Part.{Part}
 use Rattle.edges.specs.Views.{book_view}
 use Rattle.book.proofs.Backwards.{mirrors_at, mirrors_of, all_mirror, mirror_each}
 use Rattle.book.proofs.labels.is_palindrome.Goals as goal

@@ -2,7 +2,7 @@ use Rattle.std.proofs.Common.{◌≡◌, ◌-◌, ◌<◌, ◌≤◌, false, map
 use Rattle.std.proofs.lemmas.Result.{err_from_is_err_and}
 use Rattle.rings.specs.Plane.{OnPlane}
 use Rattle.chains.specs.Accepted.{lengths}
-use Rattle.edges.specs.declared.rows.Part.{Part}
+use Rattle.job_rows.specs.declared.Part.{Part}
 use Rattle.edges.specs.Views.{book_view, part_view}
 use Rattle.book.specs.Points.{KeptLengths}
 use Rattle.book.proofs.Lengthwise.{lengths_end, lengths_more, kept_at, kept_down, kept_none}

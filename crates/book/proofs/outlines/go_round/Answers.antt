@@ -1,6 +1,6 @@
 use Rattle.std.proofs.Common.{◌≡◌, false, sym, refl, ap, ◌∙◌, subst}
 use Rattle.exact.specs.Residues.{totals}
-use Rattle.edges.specs.declared.rows.Step.{Step}
+use Rattle.job_rows.specs.declared.Step.{Step}
 use Rattle.edges.specs.Views.{book_view}
 use Rattle.book.proofs.Tests.{broke_off}
 use Rattle.book.proofs.Rounds.{starts, goes_on, stops_here, all_round}

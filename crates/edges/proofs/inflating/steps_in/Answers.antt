@@ -1,6 +1,6 @@
 use Rattle.std.proofs.Common.{◌≡◌, false, get_or, vec_items, sym, refl, ap, ◌∙◌, subst}
 use Rattle.std.proofs.lemmas.List.{get_or_default}
-use Rattle.edges.specs.declared.rows.Part.{Part}
+use Rattle.job_rows.specs.declared.Part.{Part}
 use Rattle.edges.specs.Views.{step_view}
 use Rattle.edges.proofs.Gather.{push_more, push_end, no_memory}
 use Rattle.edges.proofs.Chained.{step_of_part, steps_of_parts}

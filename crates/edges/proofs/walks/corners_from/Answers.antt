@@ -1,6 +1,6 @@
 use Rattle.std.proofs.Common.{◌≡◌, ◌+◌, false, [], ◌∷◌, ◌++◌, map, get_or, drop, vec_items, sym, refl, ap, ◌∙◌, subst, append-nil}
 use Rattle.chains.specs.Edges.{corners}
-use Rattle.edges.specs.declared.rows.Step.{Step}
+use Rattle.job_rows.specs.declared.Step.{Step}
 use Rattle.edges.specs.Views.{step_view, book_view}
 use Rattle.edges.specs.Working.{KeptWalk}
 use Rattle.edges.proofs.Gather.{pushed, off_plane, no_memory}

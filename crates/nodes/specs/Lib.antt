@@ -1,0 +1,4 @@
+pub mod OnPlane
+pub mod Table
+pub mod Views
+pub mod Faults

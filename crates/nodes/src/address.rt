@@ -1,0 +1,15 @@
+// Addresses of nodes.
+ghost use Rattle.std.specs.Prelude.{◌≤◌};
+ghost use Rattle.jobs.specs.Limits.{most_depth};
+
+// The child numbers of an address: one for each level below the seed.
+pub const PATH_LENGTH: usize = 12;
+
+// A seed tile's number, and the child numbers from it down to a level. What the path holds beyond the level counts for nothing.
+#[derive(Clone, Copy, PartialEq)]
+pub struct Address {
+    pub seed: u16,
+    pub level: u8,
+    pub path: [u8; PATH_LENGTH],
+    ghost short: { level ≤ most_depth },
+}

@@ -1,0 +1,40 @@
+// From an address to others, and whether two are the same.
+ghost use Rattle.std.specs.Prelude.{◌≡◌, MatchOption};
+ghost use Rattle.chains.specs.Addresses.{seed_address, child_address};
+ghost use Rattle.nodes.specs.Views.{address_view};
+
+use crate::address::{Address, PATH_LENGTH};
+
+impl Address {
+    // The address of a seed tile.
+    pub fn of_seed(seed: u16) -> Address
+        ensures { address_view result ≡ seed_address seed }
+    {
+        Address {
+            seed,
+            level: 0,
+            path: [0; PATH_LENGTH],
+        }
+    }
+
+    // The parent's address and the child's number; None for a seed tile.
+    pub fn parent(&self) -> Option<(Address, u8)>
+        ensures { MatchOption result
+            (self.now.level ≡ 0)
+            (λ q. address_view self.now ≡ child_address (address_view q.0) q.1) }
+    {
+        if self.level == 0 {
+            return None;
+        }
+        let level = self.level - 1;
+        let mut path = self.path;
+        let child = path[level as usize];
+        path[level as usize] = 0;
+        let parent = Address {
+            seed: self.seed,
+            level,
+            path,
+        };
+        Some((parent, child))
+    }
+}

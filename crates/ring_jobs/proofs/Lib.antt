@@ -1,0 +1,5 @@
+pub mod Reading
+pub mod Rowwise
+pub mod Shaping
+pub mod Sets
+pub mod Booked

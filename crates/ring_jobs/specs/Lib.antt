@@ -1,0 +1,4 @@
+pub mod Shapes
+pub mod Fitted
+pub mod RingJobs
+pub mod Small
