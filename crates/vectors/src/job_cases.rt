@@ -1,0 +1,148 @@
+// Jobs over a ring: their check, and where their nodes lie, asked of each placer.
+use edges::rows::Placement;
+use gaussian::Gaussian;
+use job_check::check::judged;
+use jobs::job::Job;
+use jobs::reading::read;
+use nodes::address::Address;
+use nodes::fault::PlaceFault;
+use placer::descent::Descent;
+use placer::memo::Memo;
+use placer::placer::Placer;
+use refusals::{Fault, Layer};
+use ring_jobs::job::RingJob;
+use rings::ring::Ring;
+use rings::sizes::SmallRing;
+use std::alloc::Global;
+use std::process::Abort;
+use std::test::Fail;
+use tenfold::Tenfold;
+
+fn chair() -> &'static str {
+    concat!(
+        "R 4\nI 2 0\nL 0 1 0\nS 0 1 0 1\n",
+        "T 0 1 0 0 1 0 0 1 1 0 1 2 0 1 1 0 1 2 0 1 3 0 1 3\n",
+        "C 0 0 0 0 0\nC 0 0 0 1 1\nC 0 1 0 4 0\nC 0 3 0 0 4\n",
+        "D 1\nP 0 0 0 0 0\n",
+    )
+}
+
+fn penrose() -> &'static str {
+    concat!(
+        "R 10\nI 1 0 1 -1\nL 1 1 0 1 -1\nL 1 1 0 0 0\nS 0 1 1 1\nS 0 1\n",
+        "T 0 0 0 1 1 3 0 0 6\nC 0 4 1 2 0 1 -1\nC 0 4 0 2 0 1 -1\nC 1 1 1 0 0 0 0\n",
+        "T 0 1 0 1 1 4 1 1 6\nC 0 1 1 0 0 0 0\nC 1 4 0 2 0 1 -1\n",
+        "D 1\nP 0 0 0 0 0 0 0\n",
+    )
+}
+
+fn job_of(heap: Global, text: &str) -> Result<Job, Fail> {
+    match read(heap, text.as_bytes()) {
+        Ok(job) => Ok(job),
+        Err(_) => Err(Fail::new("the text is refused")),
+    }
+}
+
+fn judged_job<R: SmallRing>(heap: Global, text: &str) -> Result<RingJob<R>, Fail> {
+    let job = job_of(heap, text)?;
+    match judged(heap, &job) {
+        Ok(job) => Ok(job),
+        Err(_) => Err(Fail::new("the job is refused")),
+    }
+}
+
+// The job may not be used over the ring: the refusal's number, place and layer are these.
+fn refused<R: SmallRing>(
+    rt: &impl Abort,
+    heap: Global,
+    text: &str,
+    number: u8,
+    place: usize,
+    layer: Layer,
+) -> Result<(), Fail> {
+    let job = job_of(heap, text)?;
+    let Some(f) = judged::<R>(heap, &job).err() else {
+        return Err(Fail::new("accepted"));
+    };
+    assert!(rt; f.number() == Some(number));
+    assert!(rt; f.place() == place);
+    assert!(rt; f.layer() == layer);
+    Ok(())
+}
+
+// The seed tile's child k.
+fn child(seed: u16, k: u8) -> Address {
+    Address {
+        seed,
+        level: 1,
+        path: [k, 0, 0, 0, 0, 0, 0, 0, 0, 0, 0, 0],
+    }
+}
+
+// Whether an answer is this placement.
+fn lies<R: Ring>(
+    answer: Result<Placement<R>, PlaceFault>,
+    tile: usize,
+    turn: u32,
+    mirrored: bool,
+    place: &[i64],
+) -> bool {
+    let Ok(p) = answer else {
+        return false;
+    };
+    for k in 0..place.len() {
+        if p.place.coefficient(k) != place[k] {
+            return false;
+        }
+    }
+    p.tile == tile && p.turn == turn && p.mirrored == mirrored
+}
+
+fn has_no_node<R: Ring>(answer: Result<Placement<R>, PlaceFault>) -> bool {
+    match answer {
+        Ok(_) => false,
+        Err(f) => f.number() == Some(3),
+    }
+}
+
+fn chair_children<P: Placer>(rt: &impl Abort, placer: &mut P) {
+    assert!(rt; lies(placer.place(&Address::of_seed(0)), 0, 0, false, &[0, 0]));
+    assert!(rt; lies(placer.place(&child(0, 3)), 0, 3, false, &[0, 4]));
+    assert!(rt; lies(placer.place(&child(0, 1)), 0, 0, false, &[1, 1]));
+    assert!(rt; lies(placer.place(&child(0, 0)), 0, 0, false, &[0, 0]));
+    assert!(rt; lies(placer.place(&child(0, 2)), 0, 1, false, &[4, 0]));
+    assert!(rt; has_no_node(placer.place(&child(0, 4))));
+    assert!(rt; has_no_node(placer.place(&child(1, 0))));
+    assert!(rt; lies(placer.place(&child(0, 2)), 0, 1, false, &[4, 0]));
+}
+
+fn penrose_children<P: Placer>(rt: &impl Abort, placer: &mut P) {
+    assert!(rt; lies(placer.place(&child(0, 0)), 0, 4, true, &[2, 0, 1, -1]));
+    assert!(rt; lies(placer.place(&child(0, 1)), 0, 4, false, &[2, 0, 1, -1]));
+    assert!(rt; lies(placer.place(&child(0, 2)), 1, 1, true, &[0, 0, 0, 0]));
+    assert!(rt; has_no_node(placer.place(&child(0, 3))));
+}
+
+#[test]
+fn both_books_pass(rt: HostRuntime) -> Result<(), Fail> {
+    let _ = judged_job::<Gaussian>(rt.alloc(), chair())?;
+    let _ = judged_job::<Tenfold>(rt.alloc(), penrose())?;
+    refused::<Tenfold>(&rt, rt.alloc(), chair(), 13, 0, Layer::Sheet)?;
+    refused::<Gaussian>(&rt, rt.alloc(), penrose(), 13, 0, Layer::Sheet)
+}
+
+#[test]
+fn placers_answer_alike(rt: HostRuntime) -> Result<(), Fail> {
+    let mut plain = Descent::new(judged_job::<Gaussian>(rt.alloc(), chair())?);
+    chair_children(&rt, &mut plain);
+    let mut memo = Memo::new(Descent::new(judged_job::<Gaussian>(rt.alloc(), chair())?));
+    chair_children(&rt, &mut memo);
+    let mut twice = Memo::new(Memo::new(Descent::new(judged_job::<Gaussian>(
+        rt.alloc(),
+        chair(),
+    )?)));
+    chair_children(&rt, &mut twice);
+    let mut marked = Memo::new(Descent::new(judged_job::<Tenfold>(rt.alloc(), penrose())?));
+    penrose_children(&rt, &mut marked);
+    Ok(())
+}
