@@ -1,11 +1,9 @@
 -- Coefficients add each by itself, in every ring: so sizes of sums, and totals modulo 2^64.
-use Rattle.std.proofs.Common.{◌≡◌, ℕ, zero, suc, ◌+◌, ◌*◌, ◌<◌, ◌≤◌, List, [], ◌∷◌, length, get_or, ℤ, pos, negsuc, ◌+ℤ◌, sym, refl, ap, ◌∙◌, subst, ap₂, arith, w64, SFits}
-use native.Mathlib.Numerals.{unary_clauses}
-use Rattle.std.specs.Int.{int_wrap}
+use Rattle.std.proofs.Common.{◌≡◌, ℕ, zero, suc, ◌+◌, ◌*◌, ◌<◌, List, [], ◌∷◌, length, get_or, ℤ, pos, negsuc, ◌+ℤ◌, sym, refl, ap, ◌∙◌, subst, ap₂, arith, w64, SFits}
 use Rattle.std.proofs.lemmas.Int.{ints, int_wrap_fits}
 use Rattle.exact.specs.Cyclotomic.{Cyclotomic, CyclotomicLaws, copies, whole_times, combination}
-use Rattle.exact.specs.Groups.{AbelianGroup, AbelianLaws, repeated, times}
-use Rattle.exact.specs.Residues.{Total, residue, totals}
+use Rattle.exact.specs.Groups.{AbelianLaws, repeated, times}
+use Rattle.exact.specs.Residues.{Total, totals}
 use Rattle.exact.specs.Sizes.{Between, Within}
 use Rattle.exact.specs.Sweeps.{row_total, total_of, coefficients_from, read_total}
 use Rattle.exact.proofs.Powers.{ring_of}

@@ -1,5 +1,5 @@
 -- What the way once round says of a tile's outline.
-use Rattle.std.proofs.Common.{◌≡◌, ℕ, ◌*◌, ◌≤◌, Bool, List, map, length, pos, Ok, Decides, sym, refl, ap, ◌∙◌, subst, mul-le-mul, arith}
+use Rattle.std.proofs.Common.{◌≡◌, ℕ, ◌*◌, ◌≤◌, Bool, List, map, length, pos, Ok, Decides, sym, ap, ◌∙◌, subst, arith}
 use Rattle.std.proofs.lemmas.List.{length-map}
 use Rattle.exact.specs.Cyclotomic.{Cyclotomic, CyclotomicLaws}
 use Rattle.exact.specs.Residues.{Total}

@@ -1,23 +1,19 @@
 -- Points passed one after another, and the first that is not.
-use Rattle.std.proofs.Common.{◌≡◌, ℕ, ◌+◌, ◌<◌, ◌≤◌, List, [], ◌∷◌, ◌++◌, map, length, get_or, take, drop, IsErrAnd, Ok, Err, Result, sym, refl, ap, ◌∙◌, subst, append_assoc, arith, MatchResult}
+use Rattle.std.proofs.Common.{◌≡◌, ℕ, ◌+◌, ◌<◌, List, [], ◌∷◌, ◌++◌, map, length, drop, IsErrAnd, Ok, Err, Result, sym, refl, ap, ◌∙◌, subst, append_assoc, arith, MatchResult}
 use Rattle.std.specs.List.{range_with_len, AllByRecursion}
 use Rattle.std.proofs.lemmas.List.{take-append-drop, drop_more}
 use Rattle.std.proofs.lemmas.List.FromFn.{length-map-range_with_len, get_or-map-range_with_len, take-map-range_with_len}
 use Rattle.std.proofs.ByRecursion.{All-get_or, All-from_get_or}
 use Rattle.exact.specs.Cyclotomic.{Cyclotomic}
-use Rattle.rings.specs.declared.fault.RingFault.{RingFault}
-use Rattle.rings.specs.declared.fault.RingFault.TheVariants.{OffPlane}
 use Rattle.chains.specs.Books.{Book}
 use Rattle.chains.specs.Accepted.{Accepted}
 use Rattle.chains.proofs.Lists.{all_append, all_front, all_back}
-use Rattle.edges.specs.Views.{edge_view}
 use Rattle.edges.specs.declared.fault.ChainFault.{ChainFault}
 use Rattle.edges.specs.declared.fault.ChainFault.TheVariants as chain
 use Rattle.edges.specs.Answers.{Excused}
 use Rattle.book.specs.declared.fault.BookFault.{BookFault}
 use Rattle.book.specs.declared.fault.BookFault.TheVariants.{Factor, Length, Subdivision, Outline, Unbalanced, Ring, Memory}
 use Rattle.book.specs.Faults.{passed_on}
-use Rattle.book.specs.Differences.{UnbalancedAt}
 use Rattle.book.specs.Points.{Point, Holds, Kept, Passed, Refuses, FirstFault, Judged, Rejects, WorkedOnThePlane, points, length_points, subdivision_points, outline_points, children_points}
 use Rattle.book.specs.Points.Point.{the_factor, length_of, subdivision_of, outline_of, children_of}
 use Rattle.book.proofs.Balances.{no_difference}

@@ -1,5 +1,5 @@
 -- What a test of two sums and one of a palindrome say of a subdivision.
-use Rattle.std.proofs.Common.{◌≡◌, ℕ, Bool, true, false, Ok, Decides, sym, refl, ap, ◌∙◌, subst, true≢false}
+use Rattle.std.proofs.Common.{◌≡◌, ℕ, Bool, true, false, Ok, Decides, sym, refl, ◌∙◌, subst, true≢false}
 use mathlib.Core.Bool.{false≢true}
 use Rattle.exact.specs.Cyclotomic.{Cyclotomic}
 use Rattle.rings.specs.Plane.{OnPlane}

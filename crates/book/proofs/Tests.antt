@@ -1,5 +1,5 @@
 -- Answers of tests, and the exits of a `?` on the way.
-use Rattle.std.proofs.Common.{◌≡◌, ℕ, Bool, true, false, eqb, ℤ, pos, IsErrAnd, Ok, Err, Decides, Result, sym, refl, ap, ◌∙◌, subst, true≢false, w8, SFits, to_z, of_z, MatchResult}
+use Rattle.std.proofs.Common.{◌≡◌, Bool, true, false, eqb, ℤ, pos, IsErrAnd, Ok, Err, Decides, Result, sym, refl, ap, ◌∙◌, true≢false, w8, SFits, to_z, of_z}
 use mathlib.Core.Bool.{false≢true}
 use Rattle.std.proofs.lemmas.Int.{to_z-of_z}
 use Rattle.std.proofs.lemmas.Bool.{eqb-true, eq-eqb}

@@ -1,5 +1,5 @@
 -- Where two chains of edges in canonical form differ.
-use Rattle.std.specs.Prelude.{◌≡◌, ℕ, List, [], ◌∷◌, ◌++◌, map, ℤ, pos, ◌-ℤ◌}
+use Rattle.std.specs.Prelude.{◌≡◌, ℕ, ◌∷◌, ◌++◌, map, ℤ, pos, ◌-ℤ◌}
 use Rattle.std.specs.List.{AllByRecursion}
 use Rattle.exact.specs.Cyclotomic.{Cyclotomic}
 use Rattle.chains.specs.Counts.{Counted, tally}

@@ -1,5 +1,5 @@
 -- Edges and net counts: the two ends of an edge, and what appending, scaling and reading make of net counts.
-use Rattle.std.proofs.Common.{◌≡◌, ℕ, ◌+◌, ◌-◌, ◌*◌, ◌%◌, Bool, true, false, cond, ◌||◌, ltb, ◌↔◌, [], ◌∷◌, ◌++◌, map, ℤ, pos, ◌+ℤ◌, ◌*ℤ◌, neg_ℤ, sym, refl, ap, ◌∙◌, ap₂, true≢false}
+use Rattle.std.proofs.Common.{◌≡◌, ℕ, ◌+◌, ◌%◌, Bool, true, false, cond, ◌||◌, ltb, ◌↔◌, [], ◌∷◌, ◌++◌, map, ℤ, pos, ◌+ℤ◌, ◌*ℤ◌, neg_ℤ, sym, refl, ap, ◌∙◌, ap₂, true≢false}
 use mathlib.Core.Bool.{and-eq-true_iff, false≢true}
 use mathlib.Core.List.{map-append}
 use native.Mathlib.Nat.{mod-mod, mod-add-mod}

@@ -1,5 +1,5 @@
 -- An edge that does not occur has no net count, so a check of those that do suffices.
-use Rattle.std.proofs.Common.{◌≡◌, Bool, true, false, cond, ◌⊎◌, [], ◌∷◌, ◌++◌, map, ℤ, pos, ◌+ℤ◌, sym, refl, ap, ◌∙◌, subst, inl, inr}
+use Rattle.std.proofs.Common.{◌≡◌, Bool, true, false, cond, ◌⊎◌, [], ◌∷◌, ◌++◌, map, pos, ◌+ℤ◌, sym, refl, ap, ◌∙◌, subst, inl, inr}
 use Rattle.std.specs.List.{AllByRecursion}
 use Rattle.exact.specs.Cyclotomic.{Cyclotomic, CyclotomicLaws}
 use Rattle.chains.specs.Counts.{tally}

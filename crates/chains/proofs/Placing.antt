@@ -1,5 +1,5 @@
 -- Placing keeps equal net counts and commutes with inflating, where lengths and factor are real; so children balance their parent.
-use Rattle.std.proofs.Common.{◌≡◌, ℕ, ◌+◌, Bool, true, false, List, [], ◌∷◌, ◌++◌, map, ℤ, pos, ◌+ℤ◌, ◌*ℤ◌, neg_ℤ, sym, refl, ap, ◌∙◌, ap₂}
+use Rattle.std.proofs.Common.{◌≡◌, ℕ, Bool, true, false, List, [], ◌∷◌, ◌++◌, map, ℤ, pos, ◌+ℤ◌, ◌*ℤ◌, neg_ℤ, sym, refl, ap, ◌∙◌, ap₂}
 use mathlib.Core.List.{flat_map, map-append}
 use lib.IntN.{*ℤ-one, one}
 use Rattle.exact.specs.Cyclotomic.{Cyclotomic, CyclotomicLaws, power}

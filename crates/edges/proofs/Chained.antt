@@ -1,5 +1,5 @@
 -- Chains that are placed, put in canonical form or inflated entry by entry.
-use Rattle.std.proofs.Common.{◌≡◌, ℕ, Bool, List, [], ◌∷◌, ◌++◌, map, ◌*ℤ◌, sym, refl, ap, ◌∙◌}
+use Rattle.std.proofs.Common.{◌≡◌, ℕ, Bool, List, [], ◌∷◌, ◌++◌, map, ◌*ℤ◌, refl, ap}
 use mathlib.Core.List.{flat_map}
 use Rattle.exact.specs.Cyclotomic.{Cyclotomic}
 use Rattle.exact.specs.JobNumbers as numbers

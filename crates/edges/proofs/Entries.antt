@@ -1,12 +1,11 @@
 -- Entries of a chain are equal where their parts are.
-use Rattle.std.proofs.Common.{◌≡◌, ℕ, ◌+◌, ◌%◌, Bool, true, false, cond, not, ℤ, ◌*ℤ◌, neg_ℤ, sym, refl, ap, ◌∙◌, subst}
+use Rattle.std.proofs.Common.{◌≡◌, ℕ, ◌+◌, ◌%◌, Bool, true, false, cond, not, ℤ, ◌*ℤ◌, neg_ℤ, refl}
 use mathlib.Core.Bool.{beq}
 use Rattle.exact.specs.Cyclotomic.{Cyclotomic, half}
 use Rattle.exact.specs.JobNumbers.{Step}
 use Rattle.chains.specs.Counts.{Counted}
 use Rattle.chains.specs.Books.{Book}
 use Rattle.chains.specs.Edges.{Edge, along, edge, reversed, canonical, step_count}
-use Rattle.chains.specs.Placements.{signed}
 use Rattle.edges.specs.Views.{count_of}
 use Rattle.edges.specs.Working.{as_it_stands}
 

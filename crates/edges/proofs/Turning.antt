@@ -1,5 +1,5 @@
 -- Directions that are reduced before they are added.
-use Rattle.std.proofs.Common.{◌≡◌, ℕ, ◌+◌, ◌-◌, ◌/◌, ◌%◌, sym, refl, ap, ◌∙◌, ap₂}
+use Rattle.std.proofs.Common.{◌≡◌, ℕ, ◌+◌, ◌-◌, ◌%◌, ◌∙◌, ap₂}
 use native.Mathlib.Nat.{add-mod-mod, mod-add-mod}
 use Rattle.exact.specs.Cyclotomic.{Cyclotomic, half}
 use Rattle.chains.specs.Edges.{plus_turn, minus_turn}

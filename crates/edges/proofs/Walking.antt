@@ -1,8 +1,7 @@
 -- A walk one step after another.
-use Rattle.std.proofs.Common.{◌≡◌, ℕ, ◌+◌, ◌<◌, ◌≤◌, List, [], ◌∷◌, map, length, get_or, drop, sym, refl, ap, ◌∙◌, subst}
+use Rattle.std.proofs.Common.{◌≡◌, ℕ, ◌+◌, ◌<◌, ◌≤◌, List, [], ◌∷◌, map, length, get_or, drop, sym, subst}
 use Rattle.std.proofs.lemmas.List.{at_drop_more, at_drop_all, drop_more, drop_all}
 use Rattle.exact.specs.Cyclotomic.{Cyclotomic}
-use Rattle.exact.specs.JobNumbers as numbers
 use Rattle.chains.specs.Books.{Book}
 use Rattle.chains.specs.Edges.{walk, corners, along, step_count}
 use Rattle.job_rows.specs.declared.Step.{Step}

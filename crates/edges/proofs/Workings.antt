@@ -1,9 +1,8 @@
 -- From an operation's answer to that of a function which goes on from it.
-use Rattle.std.proofs.Common.{◌≡◌, Ok, Err, Result, sym, refl, ap, ◌∙◌, subst, MatchResult}
+use Rattle.std.proofs.Common.{◌≡◌, Result, sym, ◌∙◌, subst}
 use Rattle.std.proofs.lemmas.Result.{MatchResult-weaker}
 use Rattle.exact.specs.Cyclotomic.{Cyclotomic}
 use Rattle.rings.specs.declared.fault.RingFault.{RingFault}
-use Rattle.rings.specs.declared.fault.RingFault.TheVariants.{OffPlane}
 use Rattle.rings.specs.Plane.{OnPlane}
 use Rattle.rings.specs.Answers.{Exactly}
 use Rattle.edges.specs.Answers.{Worked}

@@ -4,7 +4,6 @@ use Rattle.std.specs.List.{AllByRecursion}
 use Rattle.exact.specs.Cyclotomic.{Cyclotomic, power, half}
 use Rattle.exact.specs.JobNumbers.{Step}
 use Rattle.rings.specs.Plane.{OnPlane}
-use Rattle.chains.specs.Counts.{Counted}
 use Rattle.chains.specs.Books.{Book, Placement, label_at, tile_at}
 use Rattle.chains.specs.Edges.{Edge, Chain, along}
 use Rattle.chains.specs.Inflation.{stepped}

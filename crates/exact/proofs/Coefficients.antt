@@ -1,5 +1,5 @@
 -- Rows of coefficients that the solver compares: an identity of rows is one line.
-use Rattle.std.proofs.Common.{◌≡◌, T, List, [], ◌∷◌, ℤ}
+use Rattle.std.proofs.Common.{◌≡◌, T, List, ◌∷◌, ℤ}
 use Rattle.exact.specs.Quads.{Pair, Quad}
 use Rattle.exact.proofs.Solver.{Ex, v, agree, den, solve}
 use Rattle.exact.proofs.Integers.{integers}

@@ -1,13 +1,13 @@
 -- Z[i] keeps the laws.
-use Rattle.std.proofs.Common.{◌≡◌, ℕ, suc, ◌+◌, List, [], ◌∷◌, length, ℤ, pos, negsuc, ◌+ℤ◌, ◌-ℤ◌, ◌*ℤ◌, neg_ℤ, refl, ap, ◌∙◌, ap₂, arith, lit≤}
+use Rattle.std.proofs.Common.{◌≡◌, ℕ, suc, List, [], ◌∷◌, length, ℤ, pos, negsuc, ◌+ℤ◌, ◌-ℤ◌, ◌*ℤ◌, neg_ℤ, refl, ap, ◌∙◌, ap₂, arith, lit≤}
 use borrow.Author.Differences.{ints}
-use Rattle.exact.specs.Cyclotomic.{Cyclotomic, CyclotomicLaws, copies, whole_times, combination}
+use Rattle.exact.specs.Cyclotomic.{CyclotomicLaws, copies, whole_times, combination}
 use Rattle.exact.specs.Signs.{sign}
 use Rattle.exact.specs.Quads.{Pair, pair_add, pair_neg, pair_mul, pair_conj}
 use Rattle.exact.specs.Models.{pair_list, pair_of, gaussian}
 use Rattle.exact.specs.Sweeps.{sweep}
 use Rattle.exact.proofs.Solver.{Ex, v, nil, unit, plus, times, minus}
-use Rattle.exact.proofs.Coefficients.{two_at, pair_same, pair_solved, X2, Y2, Z2}
+use Rattle.exact.proofs.Coefficients.{two_at, pair_solved, X2, Y2, Z2}
 use Rattle.exact.proofs.Surds.{sign_neg, sign_add}
 
 abbrev ◌⊕◌ : Pair Ex → Pair Ex → Pair Ex

@@ -1,5 +1,5 @@
 -- What follows from the laws of an exact ring: powers of ζ repeat after n, and the test of equality decides it.
-use Rattle.std.proofs.Common.{◌≡◌, ℕ, zero, suc, ◌+◌, ◌*◌, ◌/◌, ◌%◌, Bool, true, false, ◌&&◌, List, [], ◌∷◌, sym, refl, ap, ◌∙◌, ap₂, div-add-mod', arith}
+use Rattle.std.proofs.Common.{◌≡◌, ℕ, zero, suc, ◌+◌, ◌*◌, ◌/◌, ◌%◌, [], ◌∷◌, sym, ap, ◌∙◌, ap₂, div-add-mod', arith}
 use Rattle.exact.specs.Cyclotomic.{Cyclotomic, CyclotomicLaws, power, half}
 use Rattle.exact.proofs.Solver.{Commutative, v, unit, times, minus, solve}
 

@@ -1,5 +1,5 @@
 -- Rows of four with ζ⁴ = r form a commutative ring, whatever r is.
-use Rattle.std.proofs.Common.{◌≡◌, List, [], ◌∷◌, ℤ, pos, ◌+ℤ◌, ◌*ℤ◌, neg_ℤ}
+use Rattle.std.proofs.Common.{List, [], ℤ, pos, ◌+ℤ◌, ◌*ℤ◌, neg_ℤ}
 use Rattle.exact.specs.Cyclotomic.{CommutativeLaws}
 use Rattle.exact.specs.Quads.{Quad, quad_add, quad_neg, quad_mul}
 use Rattle.exact.proofs.Solver.{Ex, nil, unit, plus, times, minus}

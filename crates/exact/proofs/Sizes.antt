@@ -1,15 +1,15 @@
 -- How much the operations of the two named rings enlarge coefficients.
-use Rattle.std.proofs.Common.{◌≡◌, ℕ, zero, suc, ◌+◌, ◌*◌, ◌≤◌, List, [], ◌∷◌, ℤ, pos, negsuc, ◌+ℤ◌, ◌*ℤ◌, neg_ℤ, nat_abs, ◌≤ℤ◌, sym, refl, ap, ◌∙◌, subst, mul-le-mul, arith}
+use Rattle.std.proofs.Common.{◌≡◌, ℕ, zero, suc, ◌+◌, ◌*◌, ◌≤◌, List, [], ◌∷◌, ℤ, pos, negsuc, ◌+ℤ◌, ◌*ℤ◌, neg_ℤ, nat_abs, sym, refl, ◌∙◌, subst, mul-le-mul, arith}
 use borrow.Author.Differences.{ints}
 use Rattle.exact.specs.Cyclotomic.{Cyclotomic, power}
 use Rattle.exact.specs.Quads.{Pair, Quad, pair_mul, quad_mul}
 use Rattle.exact.specs.Models.{gaussian, tenfold, pair_list, quad_list}
 use Rattle.exact.specs.Sizes.{Between, Within, SizeLaws}
 use Rattle.exact.specs.Sweeps.{sweep}
-use Rattle.exact.proofs.Solver.{Ex, v, nil, unit, plus, times, minus}
+use Rattle.exact.proofs.Solver.{v, nil, unit, plus, times, minus}
 use Rattle.exact.proofs.Coefficients.{pair_solved, quad_solved, two_at, four_at, X2, X4}
 use Rattle.exact.proofs.GaussianLaws.{gaussian_laws}
-use Rattle.exact.proofs.TenfoldLaws.{tenfold_laws, by_rows, row0, row1, row2, row3, at4, mul_by_rows}
+use Rattle.exact.proofs.TenfoldLaws.{tenfold_laws, at4, mul_by_rows}
 
 -- ---- one coefficient
 pub between_abs : (s : ℕ) (a : ℤ) → Between s a → nat_abs a ≤ s

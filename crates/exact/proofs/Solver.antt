@@ -1,5 +1,5 @@
 -- Identities of commutative rings, proved by computing: both sides are multiplied out into signed monomials, and what is left of their difference must cancel.
-use Rattle.std.proofs.Common.{◌≡◌, ℕ, zero, suc, Bool, true, false, cond, not, ◌&&◌, T, eqb, leb, List, [], ◌∷◌, ◌++◌, sym, refl, ap, ◌∙◌, subst, ap₂, eqb→eq}
+use Rattle.std.proofs.Common.{◌≡◌, ℕ, zero, suc, Bool, true, false, cond, not, ◌&&◌, T, eqb, leb, List, [], ◌∷◌, ◌++◌, sym, refl, ap, ◌∙◌, ap₂, eqb→eq}
 use mathlib.Core.Option.{Option, some, none}
 use Rattle.exact.specs.Cyclotomic.{CommutativeLaws}
 

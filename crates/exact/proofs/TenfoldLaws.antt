@@ -1,13 +1,13 @@
 -- Z[ζ10] keeps the laws.
-use Rattle.std.proofs.Common.{◌≡◌, ℕ, suc, ◌+◌, List, [], ◌∷◌, length, ℤ, pos, negsuc, ◌+ℤ◌, ◌-ℤ◌, ◌*ℤ◌, neg_ℤ, refl, ap, ◌∙◌, ap₂, arith, lit≤}
+use Rattle.std.proofs.Common.{◌≡◌, ℕ, suc, List, [], ◌∷◌, length, ℤ, pos, negsuc, ◌+ℤ◌, ◌-ℤ◌, ◌*ℤ◌, neg_ℤ, refl, ap, ◌∙◌, ap₂, arith, lit≤}
 use borrow.Author.Differences.{ints}
-use Rattle.exact.specs.Cyclotomic.{Cyclotomic, CyclotomicLaws, copies, whole_times, combination}
+use Rattle.exact.specs.Cyclotomic.{CyclotomicLaws, copies, whole_times, combination}
 use Rattle.exact.specs.Signs.{golden_sign, surd_sign}
 use Rattle.exact.specs.Quads.{Quad, quad_add, quad_neg, quad_mul, tenfold_conj}
 use Rattle.exact.specs.Models.{quad_list, quad_of, tenfold, tenfold_reduction}
 use Rattle.exact.specs.Sweeps.{sweep}
 use Rattle.exact.proofs.Solver.{Ex, v, nil, unit, plus, times, minus}
-use Rattle.exact.proofs.Coefficients.{four_at, quad_same, quad_solved, X4, Y4, Z4}
+use Rattle.exact.proofs.Coefficients.{four_at, quad_solved, X4, Y4}
 use Rattle.exact.proofs.Quartics.{quartic_ring}
 use Rattle.exact.proofs.Surds.{surd_neg, surd_add}
 

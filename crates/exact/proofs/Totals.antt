@@ -1,12 +1,12 @@
 -- Numbers modulo 2^64, and rows of them, form commutative groups.
-use Rattle.std.proofs.Common.{◌≡◌, ℕ, zero, suc, ◌≤◌, List, [], ◌∷◌, length, get_or, ℤ, pos, ◌+ℤ◌, neg_ℤ, sym, refl, ap, ◌∙◌, w64}
+use Rattle.std.proofs.Common.{◌≡◌, ℕ, zero, suc, ◌≤◌, List, [], ◌∷◌, length, ℤ, pos, ◌+ℤ◌, neg_ℤ, sym, refl, ap, ◌∙◌, w64}
 use mathlib.Core.HLevel.{is_prop→PathP}
 use lib.IntN.{ℤ_set, +ℤ_assoc, +ℤ_comm, +ℤ_idr, +ℤ_idl, +ℤ_invr}
 use Rattle.std.specs.Int.{int_wrap}
 use Rattle.std.proofs.lemmas.Int.{int_wrap-add_left, int_wrap-add_right, int_wrap-sub_right}
 use Rattle.exact.specs.Groups.{AbelianLaws}
 use lib.ListN.{get_or-eq_default}
-use Rattle.exact.specs.Residues.{Residue, Total, residue, totals}
+use Rattle.exact.specs.Residues.{Residue, residue, totals}
 use Rattle.exact.specs.Sweeps.{row_total}
 
 pub residue_same : (x y : Residue) → x.at ≡ y.at → x ≡ y

@@ -1,6 +1,6 @@
 -- An exact ring: the whole-number combinations of the powers of ζ, a turn by one n-th of a circle.
 -- Coefficients are unbounded, so no operation refuses.
-use Rattle.std.specs.Prelude.{◌≡◌, ℕ, ◌+◌, ◌-◌, ◌/◌, ◌%◌, ◌≤◌, Bool, true, false, ◌&&◌, List, [], ◌∷◌, length, ℤ, pos, negsuc, neg_ℤ, ◌==◌}
+use Rattle.std.specs.Prelude.{◌≡◌, ℕ, ◌/◌, ◌%◌, ◌≤◌, Bool, true, false, ◌&&◌, List, [], ◌∷◌, length, ℤ, pos, negsuc, neg_ℤ, ◌==◌}
 
 -- An element is meant by a list of d coefficients c0, c1, .. and stands for c0 + c1ζ + c2ζ² + ..
 -- Conjugation mirrors in the real axis; the height is the sign of the imaginary part.

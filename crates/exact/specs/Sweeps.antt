@@ -1,7 +1,7 @@
 -- Sweeps: what the segment from p to q sweeps over as seen from 0, as 2i times twice the area of the triangle 0, p, q.
-use Rattle.std.specs.Prelude.{◌≡◌, ℕ, List, [], ◌∷◌, ℤ, pos, slice_index_or}
+use Rattle.std.specs.Prelude.{ℕ, List, [], ◌∷◌, ℤ, pos, slice_index_or}
 use Rattle.exact.specs.Cyclotomic.{Cyclotomic}
-use Rattle.exact.specs.Residues.{Residue, Total, residue, totals}
+use Rattle.exact.specs.Residues.{Total, residue}
 
 -- conj(p)·q - p·conj(q)
 abbrev pub sweep : (E : Cyclotomic) → E.Elem → E.Elem → E.Elem

@@ -1,5 +1,5 @@
 -- What this crate proves, as statements that its functions' contracts name.
-use Rattle.std.specs.Prelude.{ℤ, pos, negsuc, ◌+ℤ◌, ◌*ℤ◌, neg_ℤ}
+use Rattle.std.specs.Prelude.{ℤ, pos, ◌+ℤ◌, ◌*ℤ◌, neg_ℤ}
 use Rattle.exact.specs.Cyclotomic.{CommutativeLaws}
 use Rattle.exact.specs.Quads.{Quad, quad_add, quad_neg, quad_mul}
 

@@ -1,16 +1,15 @@
 -- From the check of a book to that of a job.
-use Rattle.std.proofs.Common.{◌≡◌, ℕ, ◌<◌, ◌≤◌, Bool, List, [], ◌∷◌, map, length, get_or, ℤ, IsErrAnd, Ok, Err, Result, sym, refl, ap, ◌∙◌, subst, inl, inr, arith, MatchResult}
+use Rattle.std.proofs.Common.{◌≡◌, ℕ, ◌<◌, ◌≤◌, Bool, List, [], ◌∷◌, length, get_or, ℤ, IsErrAnd, Ok, Err, Result, sym, ap, ◌∙◌, subst, inl, inr, arith, MatchResult}
 use mathlib.Core.Logic.{∥∥₁_elim}
 use Rattle.std.specs.List.{AllByRecursion}
 use Rattle.std.proofs.lemmas.List.{length-map, get_or-map, get_or_past}
 use Rattle.std.proofs.ByRecursion.{All-get_or, All-map, All-weaker}
 use Rattle.std.proofs.lemmas.Bool.{cases_lt}
 use Rattle.exact.specs.Cyclotomic.{Cyclotomic, CyclotomicLaws}
-use Rattle.exact.specs.JobNumbers.{LabelNumbers, PlacedNumbers, TileNumbers, JobNumbers}
-use Rattle.exact.specs.Sizes.{Between, Within, SizeLaws}
+use Rattle.exact.specs.JobNumbers.{LabelNumbers, TileNumbers, JobNumbers}
+use Rattle.exact.specs.Sizes.{Within, SizeLaws}
 use Rattle.exact.proofs.Sizes.{abs_between}
 use Rattle.chains.specs.Books.{Book, book_of, label_at, tile_at, label_of, tile_of, placement_of}
-use Rattle.chains.specs.Accepted.{Accepted}
 use Rattle.book.specs.Points.{WorkedOnThePlane, FirstFault, Rejects, points}
 use Rattle.edges.specs.declared.fault.ChainFault.{ChainFault}
 use Rattle.edges.specs.declared.fault.ChainFault.TheVariants as chain
@@ -19,13 +18,13 @@ use Rattle.book.specs.declared.fault.BookFault.{BookFault}
 use Rattle.book.specs.declared.fault.BookFault.TheVariants as book
 use Rattle.jobs.specs.Limits.{most_parts, most_steps}
 use Rattle.jobs.specs.Ranges.{Coefficient, LabelFits, TileFits, PlacedFits, InRange, kinds_of}
-use Rattle.small_books.specs.Sizes.{Small, Limited, NotAccepted, job_bound}
+use Rattle.small_books.specs.Sizes.{Small, Limited, job_bound}
 use Rattle.small_books.proofs.Whole.{stays}
 use Rattle.ring_jobs.specs.RingJobs.{OfTheRing}
 use Rattle.ring_jobs.specs.Fitted.{relisted, fitted_job}
 use Rattle.ring_jobs.proofs.Sets.{numbers_set}
 use Rattle.ring_jobs.proofs.Shaping.{fitted_job_same}
-use Rattle.job_check.specs.Checks.{UnlessMemory, Judged, Passes, Fails, NotUsable}
+use Rattle.job_check.specs.Checks.{UnlessMemory, Fails, NotUsable}
 use Rattle.job_check.specs.declared.fault.CheckFault.{CheckFault}
 use Rattle.job_check.specs.declared.fault.CheckFault.TheVariants.{WrongRing, Book as BookFails}
 

@@ -1,5 +1,4 @@
 -- What the check of a job says.
-use Rattle.std.specs.Prelude.{◌≡◌}
 use Rattle.exact.specs.Cyclotomic.{Cyclotomic}
 use Rattle.exact.specs.JobNumbers.{JobNumbers}
 use Rattle.chains.specs.Books.{book_of}

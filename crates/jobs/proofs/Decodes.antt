@@ -1,19 +1,17 @@
 -- Numbers of a line against what they say.
-use Rattle.std.proofs.Common.{◌≡◌, ℕ, ◌+◌, ◌-◌, ◌*◌, ◌<◌, ◌≤◌, Bool, true, false, ◌⊎◌, List, [], ◌∷◌, ◌++◌, map, length, get_or, take, drop, ℤ, pos, negsuc, nat_abs, Some, None, Decides, Option, sym, refl, ap, ◌∙◌, subst, inl, inr, ⊎_elim, append_assoc, append-nil, arith, MatchOption}
+use Rattle.std.proofs.Common.{◌≡◌, ℕ, ◌-◌, ◌<◌, ◌≤◌, Bool, true, false, List, [], ◌∷◌, map, length, get_or, take, drop, ℤ, pos, negsuc, Some, None, Decides, Option, sym, refl, ap, ◌∙◌, subst, arith, MatchOption}
 use lib.Signed.{lt_z}
-use Rattle.std.specs.List.{flat_map, AllByRecursion}
 use Rattle.std.proofs.lemmas.Slice.{first_rest}
-use Rattle.std.proofs.ByRecursion.{All-get_or, All-push, All-more}
 use Rattle.std.proofs.lemmas.List.{length-map, get_or-map, take_rest}
 use Rattle.std.proofs.lemmas.Int.{ints}
 use Rattle.std.proofs.lemmas.Bool.{ltb-false, true≢false, false≢true}
-use Rattle.exact.specs.JobNumbers.{PlacedNumbers, Part, Step}
+use Rattle.exact.specs.JobNumbers.{PlacedNumbers}
 use Rattle.jobs.specs.declared.rows.Label.{Label}
 use Rattle.jobs.specs.declared.draft.Misfit.{Misfit}
 use Rattle.jobs.specs.declared.draft.Misfit.TheVariants.{Place as Misplaced, Numbers, Memory}
 use Rattle.jobs.specs.Drafts.{Unfit}
 use Rattle.jobs.specs.Ranges.{Coefficient, Element, Sensed, PlacedFits}
-use Rattle.jobs.specs.Spelled.{mark, label_numbers, part_numbers, step_numbers, placed_numbers}
+use Rattle.jobs.specs.Spelled.{label_numbers, placed_numbers}
 
 pub one_is : (ns : List ℤ) (z : ℤ) → length ns ≡ 1 → get_or ns 0 (pos 0) ≡ z → ns ≡ z ∷ []
 one_is (x ∷ []) z e h = ap (λ y. y ∷ []) h

@@ -1,9 +1,9 @@
 -- Reading line after line: how far it came, and why it stopped.
-use Rattle.std.proofs.Common.{◌≡◌, ℕ, suc, ◌+◌, ◌*◌, ◌^◌, ◌<◌, ◌≤◌, ◌⊎◌, List, [], ◌∷◌, ◌++◌, map, length, ℤ, pos, IfSome, Some, None, Ok, Err, vec_items, Option, Result, sym, refl, ap, ◌∙◌, subst, inl, inr, ⊎_elim, append_assoc, append-nil, arith, MatchResult}
-use Rattle.std.specs.List.{flat_map, AllByRecursion}
+use Rattle.std.proofs.Common.{◌≡◌, ℕ, ◌+◌, ◌*◌, ◌^◌, ◌<◌, ◌≤◌, ◌⊎◌, List, [], ◌∷◌, ◌++◌, map, length, ℤ, pos, IfSome, Some, None, Ok, Err, vec_items, Option, Result, sym, refl, ap, ◌∙◌, subst, inl, inr, append_assoc, append-nil, arith, MatchResult}
+use Rattle.std.specs.List.{flat_map}
 use Rattle.std.proofs.ByRecursion.{All-push}
 use Rattle.std.proofs.lemmas.List.{flat_map_more, length_push, length-append, length-map, nil_from_length}
-use Rattle.exact.specs.JobNumbers.{JobNumbers, LabelNumbers, TileNumbers}
+use Rattle.exact.specs.JobNumbers.{JobNumbers, LabelNumbers}
 use Rattle.lines.specs.Letters.{Letter, letter_D}
 use Rattle.lines.specs.Lines.{Line, line, text, spelt, WellSpelt, FirstLine}
 use Rattle.lines.proofs.Fronted.{first_shorter}
@@ -20,15 +20,15 @@ use Rattle.jobs.specs.Rows.{head_of, tile_of}
 use Rattle.jobs.specs.Drafts.{Added, front}
 use Rattle.faults.specs.Told.{told}
 use Rattle.jobs.specs.Faults.{Refuses}
-use Rattle.jobs.specs.Fronts.{Front, nothing, Place, Complete, Takes, Steps, Leads, job_of}
+use Rattle.jobs.specs.Fronts.{Front, nothing, Steps, Leads, job_of}
 use Rattle.jobs.specs.Jobs.{numbers}
 use Rattle.jobs.specs.Limits.{most_bytes, most_labels}
-use Rattle.jobs.specs.Ranges.{InRange, Shaped, ChildrenNamed}
-use Rattle.jobs.specs.Refusals.{At, Why, misspelt, misplaced, early, unfit, late, Refused, overlong, stopped, first_beyond}
+use Rattle.jobs.specs.Ranges.{InRange, Shaped}
+use Rattle.jobs.specs.Refusals.{At, Why, misspelt, misplaced, early, unfit, late, Refused, stopped, first_beyond}
 use Rattle.jobs.specs.Spelled.{label_line, subdivision_line, seed_line, tile_lines, lines_of, spelled}
 use Rattle.jobs.specs.Turns.{Taken, Halted, ReadUp, misfit_told, misread_told}
 use Rattle.jobs.proofs.Lates.{late_lines, tiles_named, at_line}
-use Rattle.jobs.proofs.Shapes.{Ends, complete_ends}
+use Rattle.jobs.proofs.Shapes.{complete_ends}
 use Rattle.jobs.proofs.Verdicts.{refused_one, job_accepted, job_one}
 use Rattle.jobs.proofs.Widths.{job_fits}
 

@@ -1,15 +1,15 @@
 -- Children that name a tile beyond the last.
-use Rattle.std.proofs.Common.{◌≡◌, ℕ, suc, ◌+◌, ◌<◌, ◌≤◌, Bool, true, false, cond, leb, List, [], ◌∷◌, ◌++◌, map, length, get_or, drop, ℤ, pos, Some, None, vec_items, Option, sym, refl, ap, ◌∙◌, subst, append_assoc, append-nil, arith}
+use Rattle.std.proofs.Common.{◌≡◌, ℕ, suc, ◌+◌, ◌<◌, ◌≤◌, Bool, true, false, cond, leb, List, [], ◌∷◌, ◌++◌, map, length, get_or, drop, Some, None, vec_items, Option, sym, refl, ap, ◌∙◌, arith}
 use Rattle.jobs.specs.declared.rows.Placed.{Placed}
 use Rattle.jobs.specs.declared.rows.Tile.{Tile}
 use Rattle.jobs.specs.Rows.{placed_of, tile_of}
 use Rattle.std.specs.List.{flat_map, AllByRecursion}
 use Rattle.std.proofs.lemmas.List.{length-append, length-map, drop_more}
 use Rattle.std.proofs.lemmas.Bool.Decides.{nat_tests}
-use Rattle.exact.specs.JobNumbers.{JobNumbers, LabelNumbers, TileNumbers, PlacedNumbers, Part}
-use Rattle.lines.specs.Lines.{Line, line}
+use Rattle.exact.specs.JobNumbers.{JobNumbers, LabelNumbers, TileNumbers, PlacedNumbers}
+use Rattle.lines.specs.Lines.{Line}
 use Rattle.jobs.specs.Ranges.{ChildrenNamed}
-use Rattle.jobs.specs.Spelled.{label_line, subdivision_line, outline_line, child_line, seed_line, tile_lines, lines_of}
+use Rattle.jobs.specs.Spelled.{label_line, subdivision_line, child_line, seed_line, tile_lines, lines_of}
 use Rattle.jobs.specs.Refusals.{beyond, first_beyond}
 
 -- the first that is there

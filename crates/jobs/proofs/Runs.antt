@@ -1,17 +1,17 @@
 -- The lines of a job in range lead to it, and to nothing else.
-use Rattle.std.proofs.Common.{◌≡◌, ℕ, ◌+◌, ◌<◌, ◌≤◌, Bool, true, false, ◌⊎◌, List, [], ◌∷◌, ◌++◌, map, length, ℤ, pos, Some, None, Option, sym, refl, ap, ◌∙◌, subst, ap₂, inl, inr, ⊎_elim, append_assoc, append-nil, arith}
+use Rattle.std.proofs.Common.{◌≡◌, ℕ, ◌+◌, ◌<◌, ◌≤◌, Bool, List, [], ◌∷◌, ◌++◌, map, length, ℤ, Some, None, sym, refl, ap, ◌∙◌, subst, ap₂, inl, inr, ⊎_elim, append_assoc, append-nil, arith}
 use Rattle.std.specs.List.{flat_map, AllByRecursion}
-use Rattle.std.proofs.lemmas.List.{length_push, length-append, length-map}
+use Rattle.std.proofs.lemmas.List.{length_push, length-map}
 use Rattle.exact.specs.JobNumbers.{JobNumbers, LabelNumbers, TileNumbers, PlacedNumbers, Part, Step}
 use Rattle.lines.specs.Letters.{Letter, letter_R, letter_I, letter_L, letter_S, letter_T, letter_C, letter_D, letter_P}
-use Rattle.lines.specs.Lines.{Line, line}
+use Rattle.lines.specs.Lines.{Line}
 use Rattle.jobs.specs.Limits.{Ring, most_labels, most_tiles, most_children, most_depth, most_seeds}
 use Rattle.jobs.specs.Ranges.{Element, PlacedFits, SeedFits, SubdivisionFits, OutlineFits, TileFits, LabelFits, Shaped, kinds_of}
-use Rattle.jobs.specs.Spelled.{label_numbers, part_numbers, step_numbers, placed_numbers, label_line, subdivision_line, outline_line, child_line, seed_line, tile_lines, lines_of}
-use Rattle.jobs.specs.Fronts.{Head, Front, nothing, Place, Complete, Takes, Steps, Leads, labelled, job_of, with_ring, with_factor, with_label, with_subdivision, with_tile, with_child, with_depth, with_seed}
+use Rattle.jobs.specs.Spelled.{label_line, subdivision_line, child_line, seed_line, tile_lines, lines_of}
+use Rattle.jobs.specs.Fronts.{Head, Front, nothing, Takes, Steps, Leads, labelled, job_of, with_ring, with_label, with_subdivision, with_tile, with_child, with_depth, with_seed}
 use Rattle.jobs.proofs.Adds.{opened_some}
 use Rattle.jobs.proofs.Series.{mark_inj, parts_unique, steps_unique, placed_unique}
-use Rattle.jobs.proofs.Shapes.{whole_front, HeadFits, head_line, tile, ring_line, factor_line, depth_line, kinds}
+use Rattle.jobs.proofs.Shapes.{whole_front, HeadFits, head_line, tile, depth_line, kinds}
 
 -- each line leads to one front only
 ring_rank : (n d m e : ℕ) → Ring n d → Ring m e → n ≡ m → d ≡ e

@@ -1,16 +1,16 @@
 -- The fronts that lines can lead to, and the lines that lead there.
-use Rattle.std.proofs.Common.{◌≡◌, ℕ, ◌+◌, ◌<◌, ◌≤◌, Bool, true, false, ◌⊎◌, List, [], ◌∷◌, ◌++◌, map, length, ℤ, pos, Some, None, Option, sym, refl, ap, ◌∙◌, subst, ap₂, inl, inr, ⊎_elim, append_assoc, append-nil, arith}
+use Rattle.std.proofs.Common.{◌≡◌, ℕ, ◌+◌, ◌<◌, ◌≤◌, Bool, List, [], ◌∷◌, ◌++◌, map, length, ℤ, pos, Some, None, Option, sym, refl, ap, ◌∙◌, subst, ap₂, ⊎_elim, append_assoc, append-nil, arith}
 use Rattle.std.specs.List.{flat_map, AllByRecursion}
 use Rattle.std.proofs.ByRecursion.{All-push}
-use Rattle.std.proofs.lemmas.List.{length_push, length-append, map_push, map-append}
+use Rattle.std.proofs.lemmas.List.{length_push, map_push}
 use Rattle.std.proofs.lemmas.Bool.{false≢true}
-use Rattle.exact.specs.JobNumbers.{JobNumbers, LabelNumbers, TileNumbers, PlacedNumbers, Part, Step}
+use Rattle.exact.specs.JobNumbers.{LabelNumbers, TileNumbers, PlacedNumbers, Part, Step}
 use Rattle.lines.specs.Letters.{Letter, letter_R, letter_I, letter_L, letter_S, letter_T, letter_C, letter_D, letter_P}
 use Rattle.lines.specs.Lines.{Line, line}
 use Rattle.jobs.specs.Limits.{Ring, most_labels, most_tiles, most_children, most_depth, most_seeds}
 use Rattle.jobs.specs.Ranges.{Element, PlacedFits, SeedFits, SubdivisionFits, OutlineFits, TileFits, LabelFits, Shaped, kinds_of}
-use Rattle.jobs.specs.Spelled.{label_numbers, part_numbers, step_numbers, placed_numbers, label_line, subdivision_line, outline_line, child_line, seed_line, tile_lines, lines_of}
-use Rattle.jobs.specs.Fronts.{Head, Front, nothing, Place, Complete, Takes, Leads, opened, with_tile, labelled, job_of}
+use Rattle.jobs.specs.Spelled.{label_numbers, label_line, subdivision_line, outline_line, child_line, seed_line, tile_lines, lines_of}
+use Rattle.jobs.specs.Fronts.{Head, Front, nothing, Place, Complete, Takes, Leads, labelled, job_of}
 use Rattle.jobs.proofs.Adds.{opened_some}
 
 abbrev pub kinds : List Head → List Bool

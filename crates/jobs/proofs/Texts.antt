@@ -1,8 +1,8 @@
 -- The bytes of rows, against those of a job's lines.
-use Rattle.std.proofs.Common.{◌≡◌, ℕ, suc, ◌<◌, ◌≤◌, List, [], ◌∷◌, ◌++◌, map, length, ℤ, pos, vec_items, sym, refl, ap, ◌∙◌, subst, ap₂, append_assoc, append-nil, arith}
+use Rattle.std.proofs.Common.{◌≡◌, ℕ, List, [], ◌∷◌, ◌++◌, map, length, ℤ, vec_items, sym, refl, ap, ◌∙◌, ap₂, append_assoc, append-nil, arith}
 use Rattle.std.specs.List.{flat_map}
-use Rattle.exact.specs.JobNumbers.{LabelNumbers, TileNumbers, PlacedNumbers}
-use Rattle.lines.specs.Lines.{Line, line, spelt, text}
+use Rattle.exact.specs.JobNumbers.{LabelNumbers}
+use Rattle.lines.specs.Lines.{Line, spelt, text}
 use Rattle.lines.specs.Spelling.{word}
 use Rattle.exact.specs.JobNumbers.{Part as PartNumbers}
 use Rattle.jobs.specs.declared.rows.Label.{Label}
@@ -10,10 +10,10 @@ use Rattle.job_rows.specs.declared.Part.{Part}
 use Rattle.job_rows.specs.declared.Step.{Step}
 use Rattle.jobs.specs.declared.rows.Placed.{Placed}
 use Rattle.jobs.specs.declared.rows.Tile.{Tile}
-use Rattle.jobs.specs.Fronts.{Head, labelled}
+use Rattle.jobs.specs.Fronts.{labelled}
 use Rattle.jobs.specs.Rows.{head_of, part_of, step_of, placed_of, tile_of}
-use Rattle.jobs.specs.RowTexts.{label_text, part_text, parts_text, step_text, steps_text, placed_text, tile_text}
-use Rattle.jobs.specs.Spelled.{part_numbers, step_numbers, placed_numbers, label_line, subdivision_line, outline_line, child_line, seed_line, tile_lines}
+use Rattle.jobs.specs.RowTexts.{label_text, parts_text, steps_text, placed_text, tile_text}
+use Rattle.jobs.specs.Spelled.{part_numbers, step_numbers, label_line, subdivision_line, outline_line, child_line, seed_line, tile_lines}
 
 pub parts_end : (a b : List ℕ) → a ++ b ≡ a ++ (b ++ [])
 parts_end a b = ap (λ t. a ++ t) (sym (append-nil b))

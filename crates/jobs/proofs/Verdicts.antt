@@ -1,16 +1,15 @@
 -- A text has one verdict: one job in range, or one refusal.
-use Rattle.std.proofs.Common.{◌≡◌, ℕ, ◌+◌, ◌<◌, ◌≤◌, Bool, true, false, ◌⊎◌, List, [], ◌∷◌, ◌++◌, map, length, ℤ, pos, Some, None, Option, sym, refl, ap, ◌∙◌, subst, ap₂, inl, inr, ⊎_elim, append_assoc, append-nil, arith}
+use Rattle.std.proofs.Common.{◌≡◌, ℕ, ◌≤◌, ◌⊎◌, List, [], ◌∷◌, ◌++◌, length, ℤ, sym, refl, ap, ◌∙◌, subst, inl, inr, ⊎_elim, append-nil, arith}
 use Rattle.std.specs.List.{AllByRecursion}
-use Rattle.std.proofs.ByRecursion.{All-append}
 use Rattle.exact.specs.JobNumbers.{JobNumbers}
 use Rattle.lines.specs.Letters.{Letter}
-use Rattle.lines.specs.Lines.{Line, line, text, spelt, WellSpelt, FirstLine}
+use Rattle.lines.specs.Lines.{Line, line, text, WellSpelt, FirstLine}
 use Rattle.lines.proofs.Fronted.{line_unique, first_of}
 use Rattle.jobs.specs.Limits.{most_bytes}
 use Rattle.jobs.specs.Ranges.{Shaped, InRange}
 use Rattle.jobs.specs.Spelled.{lines_of, spelled}
-use Rattle.jobs.specs.Fronts.{Front, nothing, Place, Complete, Takes, Leads, job_of}
-use Rattle.jobs.specs.Refusals.{At, Why, misspelt, misplaced, early, unfit, late, Refused, overlong, stopped, first_beyond}
+use Rattle.jobs.specs.Fronts.{Front, nothing, Place, Takes, Leads, job_of}
+use Rattle.jobs.specs.Refusals.{At, Why, misspelt, misplaced, early, unfit, late, Refused, overlong, stopped}
 use Rattle.jobs.proofs.Lates.{late_lines, none_tiles}
 use Rattle.jobs.proofs.Runs.{takes_one, whole, job_whole, job_leads}
 

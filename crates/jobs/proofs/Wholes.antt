@@ -1,11 +1,11 @@
 -- The text of a job, as its parts are written.
-use Rattle.std.proofs.Common.{◌≡◌, ℕ, ◌<◌, ◌≤◌, List, [], ◌∷◌, ◌++◌, map, length, take, drop, pos, vec_items, decimal, sym, refl, ap, ◌∙◌, ap₂, ⊎_elim, append-nil, arith}
+use Rattle.std.proofs.Common.{◌≡◌, ◌≤◌, [], ◌∷◌, ◌++◌, map, length, pos, vec_items, decimal, sym, refl, ◌∙◌, ap₂, ⊎_elim, append-nil, arith}
 use mathlib.Core.Logic.{∥∥₁_elim}
 use native.Mathlib.Bridge.{le_prop}
 use Rattle.std.specs.List.{flat_map}
 use Rattle.std.proofs.lemmas.Bool.{cases_lt}
-use Rattle.lines.specs.Lines.{line, text, spelt}
-use Rattle.lines.specs.Letters.{letter_R, letter_I, letter_D}
+use Rattle.lines.specs.Lines.{line}
+use Rattle.lines.specs.Letters.{letter_D}
 use Rattle.lines.specs.Spelling.{word}
 use Rattle.exact.specs.JobNumbers.{LabelNumbers}
 use Rattle.jobs.specs.declared.job.Job.{Job}

@@ -1,15 +1,15 @@
 -- The numbers of a job in range are short, and so is its text.
-use Rattle.std.proofs.Common.{◌≡◌, ℕ, suc, ◌+◌, ◌*◌, ◌^◌, ◌<◌, ◌≤◌, Bool, true, false, ◌⊎◌, List, [], ◌∷◌, ◌++◌, map, length, ℤ, pos, negsuc, nat_abs, decimal, sym, refl, ap, ◌∙◌, subst, inl, inr, ⊎_elim, append_assoc, append-nil, mul-suc, arith}
+use Rattle.std.proofs.Common.{◌≡◌, ℕ, suc, ◌+◌, ◌*◌, ◌<◌, ◌≤◌, Bool, true, false, List, [], ◌∷◌, ◌++◌, map, length, ℤ, pos, negsuc, nat_abs, ap, ◌∙◌, mul-suc, arith}
 use Rattle.std.specs.List.{flat_map, AllByRecursion}
 use Rattle.std.proofs.lemmas.Fmt.{length-decimal-le}
-use Rattle.std.proofs.ByRecursion.{All-append, All-map, All-weaker}
+use Rattle.std.proofs.ByRecursion.{All-append, All-weaker}
 use Rattle.std.proofs.lemmas.List.{length-append, length-map}
 use Rattle.exact.specs.JobNumbers.{JobNumbers, LabelNumbers, TileNumbers, PlacedNumbers, Part, Step}
 use Rattle.lines.specs.Letters.{letter_R, letter_I, letter_D}
 use Rattle.lines.specs.Lines.{Line, line, text, spelt, WellSpelt}
 use Rattle.lines.specs.Spelling.{Short, word}
 use Rattle.jobs.specs.Limits.{Ring, most_bytes}
-use Rattle.jobs.specs.Ranges.{Coefficient, Element, Sensed, PartFits, StepFits, PlacedFits, SeedFits, SubdivisionFits, OutlineFits, TileFits, LabelFits, ChildrenNamed, Shaped, InRange, kinds_of}
+use Rattle.jobs.specs.Ranges.{Coefficient, PartFits, StepFits, PlacedFits, SeedFits, OutlineFits, TileFits, LabelFits, ChildrenNamed, InRange, kinds_of}
 use Rattle.jobs.specs.Spelled.{mark, part_numbers, step_numbers, placed_numbers, label_line, subdivision_line, outline_line, child_line, seed_line, tile_lines, lines_of, spelled}
 use Rattle.jobs.proofs.Series.{length_parts, length_steps}
 

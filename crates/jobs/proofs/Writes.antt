@@ -1,8 +1,8 @@
 -- One thing written after another.
-use Rattle.std.proofs.Common.{◌≡◌, ℕ, suc, ◌+◌, ◌-◌, ◌<◌, ◌≤◌, List, [], ◌∷◌, ◌++◌, length, get_or, take, drop, set, sym, refl, ap, ◌∙◌, subst, append_assoc, append-nil, arith}
+use Rattle.std.proofs.Common.{◌≡◌, ℕ, suc, ◌+◌, ◌<◌, ◌≤◌, List, [], ◌∷◌, ◌++◌, length, get_or, take, drop, set, sym, refl, ap, ◌∙◌, subst, append_assoc, append-nil, arith}
 use Rattle.std.specs.List.{flat_map}
 use Rattle.std.proofs.lemmas.List.{length-append, length-set, take_more, take_all, take_at, set_at, length_push}
-use Rattle.jobs.specs.Puts.{written, Put, Puts}
+use Rattle.jobs.specs.Puts.{written, Puts}
 
 pub length_written : (bs xs : List ℕ) (at : ℕ) → length (written xs at bs) ≡ length xs
 length_written [] xs at = refl

@@ -1,5 +1,5 @@
 -- What a draft says, and what adding a line to it answers.
-use Rattle.std.specs.Prelude.{◌≡◌, List, map, ℤ, Ok, Err, vec_items, Result}
+use Rattle.std.specs.Prelude.{List, map, ℤ, Ok, Err, vec_items, Result}
 use Rattle.lines.specs.Letters.{Letter}
 use Rattle.jobs.specs.declared.draft.Draft.{Draft}
 use Rattle.jobs.specs.declared.draft.Misfit.{Misfit}

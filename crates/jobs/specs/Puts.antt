@@ -1,5 +1,5 @@
 -- Bytes written into a buffer.
-use Rattle.std.specs.Prelude.{◌≡◌, ℕ, ◌+◌, ◌≤◌, List, [], ◌∷◌, ◌++◌, length, slice_set}
+use Rattle.std.specs.Prelude.{◌≡◌, ℕ, ◌+◌, ◌≤◌, List, [], ◌∷◌, length, slice_set}
 
 -- the buffer xs after the bytes bs are written from the place at on
 abbrev pub written : List ℕ → ℕ → List ℕ → List ℕ

@@ -1,5 +1,5 @@
 -- The numbers that the rows of a job hold.
-use Rattle.std.specs.Prelude.{ℕ, List, map, ℤ, vec_items}
+use Rattle.std.specs.Prelude.{map, vec_items}
 use Rattle.exact.specs.JobNumbers.{Part, Step, PlacedNumbers, TileNumbers}
 use Rattle.jobs.specs.declared.rows.Label.{Label}
 use Rattle.job_rows.specs.declared.Part.{Part as PartRow}

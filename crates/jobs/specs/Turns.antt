@@ -1,5 +1,5 @@
 -- What reading one line after another answers.
-use Rattle.std.specs.Prelude.{◌≡◌, ℕ, ◌+◌, ◌<◌, ◌≤◌, List, [], ◌∷◌, ◌++◌, length, ℤ, IfSome}
+use Rattle.std.specs.Prelude.{◌≡◌, ℕ, ◌+◌, List, [], length, ℤ, IfSome}
 use Rattle.lines.specs.Letters.{Letter}
 use Rattle.lines.specs.Lines.{Line, FirstLine}
 use Rattle.lines.specs.declared.Misread.{Misread}
@@ -7,7 +7,7 @@ use Rattle.lines.specs.declared.Misread.TheVariants.{Misspelt as Garbled, Memory
 use Rattle.jobs.specs.declared.draft.Misfit.{Misfit}
 use Rattle.jobs.specs.declared.draft.Misfit.TheVariants.{Place as NoPlace, Numbers, Memory as NoRoom}
 use Rattle.faults.specs.declared.TextFault.{TextFault}
-use Rattle.faults.specs.declared.TextFault.TheVariants.{Misspelt, Misplaced, Unfit, Overlong, Memory}
+use Rattle.faults.specs.declared.TextFault.TheVariants.{Misspelt, Misplaced, Unfit, Memory}
 use Rattle.faults.specs.Told.{told}
 use Rattle.jobs.specs.Fronts.{Front, Place, Takes, Complete}
 use Rattle.jobs.specs.Refusals.{At, Why}

@@ -1,5 +1,5 @@
 -- A well spelt line at the front of a text: it is the only one, and how it is told.
-use Rattle.std.proofs.Common.{◌≡◌, ℕ, suc, ◌+◌, ◌^◌, ◌<◌, ◌≤◌, cond, eqb, List, [], ◌∷◌, ◌++◌, length, get_or, take, ℤ, pos, negsuc, nat_abs, decimal, sym, refl, ap, ◌∙◌, subst, inl, inr, ⊎_elim, append_assoc, append-nil, arith}
+use Rattle.std.proofs.Common.{◌≡◌, ℕ, suc, ◌<◌, cond, eqb, List, [], ◌∷◌, ◌++◌, length, get_or, ℤ, pos, negsuc, decimal, sym, refl, ap, ◌∙◌, append_assoc, arith}
 use Rattle.std.specs.List.{flat_map, AllByRecursion}
 use Rattle.std.proofs.lemmas.Fmt.{digits_decimal}
 use Rattle.std.proofs.ByRecursion.{All-append, All-from_get_or}
@@ -7,7 +7,7 @@ use Rattle.std.proofs.lemmas.List.{length-append}
 use Rattle.lines.specs.declared.Kind.{Kind}
 use Rattle.lines.specs.Letters.{Letter, letter_R, letter_I, letter_L, letter_S, letter_T, letter_C, letter_D, letter_P, letter, byte, after, Lettered}
 use Rattle.lines.specs.Lines.{Inside, Cut, Line, spelt, text, WellSpelt, FirstLine}
-use Rattle.lines.specs.Spelling.{Few, Short, word, Word, Words}
+use Rattle.lines.specs.Spelling.{Few, Short, word, Words}
 use Rattle.lines.proofs.Decimal.{own, word_unique}
 use Rattle.lines.proofs.Sequence.{words_first}
 

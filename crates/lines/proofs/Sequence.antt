@@ -1,8 +1,8 @@
 -- The numbers of a line, one after the other. Assumes nothing.
-use Rattle.std.proofs.Common.{◌≡◌, ℕ, suc, ◌+◌, ◌-◌, ◌<◌, ◌≤◌, List, [], ◌∷◌, ◌++◌, length, get_or, ℤ, sym, refl, ap, ◌∙◌, subst, append_assoc, append-nil, arith}
-use Rattle.std.specs.List.{flat_map, AllByRecursion}
+use Rattle.std.proofs.Common.{◌≡◌, ℕ, ◌<◌, List, [], ◌∷◌, ◌++◌, length, ℤ, sym, refl, ap, ◌∙◌, subst, append_assoc, append-nil, arith}
+use Rattle.std.specs.List.{flat_map}
 use Rattle.std.proofs.lemmas.List.{length-append}
-use Rattle.lines.specs.Spelling.{Short, Ends, word, Word, Words}
+use Rattle.lines.specs.Spelling.{Ends, word, Word, Words}
 use Rattle.lines.proofs.Decimal.{word_unique}
 
 ends_words : (zs : List ℤ) → Ends (flat_map word zs)

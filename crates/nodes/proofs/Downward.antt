@@ -1,13 +1,11 @@
 -- A child of a placed tile, by its number.
-use Rattle.std.proofs.Common.{◌≡◌, ℕ, ◌+◌, ◌<◌, ◌≤◌, Bool, true, false, cond, ◌&&◌, ltb, List, [], ◌∷◌, length, get_or, take, drop, IsErrAnd, Ok, Err, Result, sym, refl, ap, ◌∙◌, subst, ap₂, arith, le-ltb, lt-ltb}
-use Rattle.std.proofs.lemmas.Bool.{and_parts, and_from}
-use Rattle.std.proofs.lemmas.List.{at_drop_more, at_drop_all}
+use Rattle.std.proofs.Common.{◌≡◌, ℕ, ◌<◌, ◌≤◌, Bool, true, false, cond, ◌&&◌, ltb, List, ◌∷◌, length, get_or, IsErrAnd, Ok, Err, Result, sym, refl, ap, ◌∙◌, ap₂, arith, le-ltb, lt-ltb}
+use Rattle.std.proofs.lemmas.Bool.{and_parts}
 use Rattle.exact.specs.Cyclotomic.{Cyclotomic, CyclotomicLaws}
 use Rattle.exact.specs.JobNumbers.{PlacedNumbers, JobNumbers}
-use Rattle.chains.specs.Books as books
-use Rattle.chains.specs.Books.{Book, Placement, placement_of, book_of}
+use Rattle.chains.specs.Books.{Placement, placement_of, book_of}
 use Rattle.chains.specs.Placements.{child_of}
-use Rattle.chains.specs.Addresses.{Address, child_entries, child_count, child_tile, no_entry, leads_down, seed_tile, seed_placement, node_placement, child_placement, placement_below}
+use Rattle.chains.specs.Addresses.{child_entries, child_count, child_tile, no_entry, leads_down, seed_tile, seed_placement, node_placement, child_placement, placement_below}
 use Rattle.edges.specs.declared.rows.Placement.{Placement as Placed}
 use Rattle.edges.specs.Views.{placement_view, book_view}
 use Rattle.ring_jobs.specs.Shapes.{placed_with}

@@ -1,8 +1,8 @@
 -- Children and seed tiles of a job over a ring, by their numbers.
-use Rattle.std.proofs.Common.{◌≡◌, ℕ, ◌<◌, ◌≤◌, List, [], ◌∷◌, map, length, get_or, ℤ, vec_items, vec_len, sym, refl, ap, ◌∙◌, subst}
+use Rattle.std.proofs.Common.{◌≡◌, ℕ, ◌<◌, ◌≤◌, List, [], map, length, get_or, ℤ, vec_items, vec_len, sym, refl, ap, ◌∙◌, subst}
 use Rattle.std.proofs.lemmas.List.{get_or-map, get_or_past, length-map}
 use Rattle.exact.specs.JobNumbers.{PlacedNumbers, TileNumbers, JobNumbers}
-use Rattle.chains.specs.Addresses.{child_entries, child_count, no_entry}
+use Rattle.chains.specs.Addresses.{child_entries, no_entry}
 use Rattle.edges.specs.declared.rows.Placement.{Placement as Placed}
 use Rattle.edges.specs.declared.rows.Tile.{Tile}
 use Rattle.ring_jobs.specs.Shapes.{placed_with, tile_with, numbers_with}

@@ -1,10 +1,10 @@
 -- A child's entry in the table follows from its parent's.
-use Rattle.std.proofs.Common.{◌≡◌, ℕ, ◌<◌, ◌≤◌, Bool, true, false, cond, ◌&&◌, ltb, List, [], ◌∷◌, ◌++◌, get_or, sym, refl, ap, ◌∙◌, subst, ap₂, arith, ltb-false, ltb-true}
+use Rattle.std.proofs.Common.{◌≡◌, ℕ, ◌<◌, Bool, true, false, cond, ◌&&◌, ltb, List, [], ◌∷◌, ◌++◌, get_or, sym, refl, ap, ◌∙◌, subst, ap₂, arith, ltb-false, ltb-true}
 use Rattle.std.proofs.lemmas.Bool.{and_parts}
 use Rattle.exact.specs.Cyclotomic.{Cyclotomic}
 use Rattle.exact.specs.JobNumbers.{JobNumbers}
 use Rattle.chains.specs.Books.{Placement, placement_of, book_of}
-use Rattle.chains.specs.Addresses.{Address, level, child_address, has_node, node_tile, child_count, child_entries, no_entry, child_placement, placement_below, seed_placement, node_placement}
+use Rattle.chains.specs.Addresses.{Address, level, child_address, has_node, child_count, child_entries, no_entry, child_placement, placement_below, seed_placement, node_placement}
 use Rattle.chains.proofs.Nodes.{has_child, has_child_only, node_placement_tile, node_placement_child}
 use Rattle.nodes.specs.OnPlane.{on_plane, kept_child, kept_corners}
 use Rattle.nodes.specs.Table.{Entry, there, missing, outside, kept_below, kept_way, node_on_plane, table, child_entry, cornered}

@@ -1,20 +1,18 @@
 -- The tests that compute say what the facts say.
-use Rattle.std.proofs.Common.{◌≡◌, ℕ, Bool, true, false, cond, not, ◌&&◌, List, [], ◌∷◌, ℤ, IsErrAnd, Ok, Err, Result, sym, refl, ap, ◌∙◌, subst, le-leb, leb-true, MatchResult}
+use Rattle.std.proofs.Common.{◌≡◌, ℕ, Bool, true, false, cond, not, List, [], ◌∷◌, ℤ, IsErrAnd, Ok, Err, Result, refl, ◌∙◌, le-leb, leb-true}
 use mathlib.Core.Bool.{beq}
 use Rattle.std.proofs.lemmas.Bool.{and_parts, and_from}
 use Rattle.exact.specs.Cyclotomic.{Cyclotomic}
-use Rattle.exact.specs.JobNumbers.{Step}
 use Rattle.exact.specs.Sizes.{Within}
 use Rattle.exact.proofs.Sizes.{between_abs, abs_between}
 use Rattle.rings.specs.Plane.{plane_bound, OnPlane}
 use Rattle.rings.specs.declared.fault.RingFault.{RingFault}
 use Rattle.rings.specs.declared.fault.RingFault.TheVariants.{OffPlane}
 use Rattle.chains.specs.Books.{Book, Placement}
-use Rattle.chains.specs.Edges.{along}
 use Rattle.chains.specs.Placements.{stretched}
 use Rattle.edges.specs.Answers.{Worked}
 use Rattle.edges.specs.Working.{KeptImage, KeptAlong}
-use Rattle.nodes.specs.OnPlane.{small, on_plane, kept_image, kept_child, kept_along, kept_corners_from}
+use Rattle.nodes.specs.OnPlane.{small, on_plane, kept_image, kept_child, kept_along}
 
 small_in : (s : ℕ) (l : List ℤ) → small s l ≡ true → Within s l
 unfolding small

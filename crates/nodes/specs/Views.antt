@@ -1,5 +1,5 @@
 -- What the code's addresses and answers stand for.
-use Rattle.std.specs.Prelude.{ℕ, take, Ok, Err, Result}
+use Rattle.std.specs.Prelude.{take, Ok, Err, Result}
 use Rattle.exact.specs.Cyclotomic.{Cyclotomic}
 use Rattle.chains.specs.Addresses as chains
 use Rattle.edges.specs.declared.rows.Placement.{Placement as Placed}

@@ -1,8 +1,6 @@
 -- The book of a job over a ring is the one that its numbers say.
-use Rattle.std.proofs.Common.{◌≡◌, ℕ, Bool, List, [], ◌∷◌, map, vec_items, sym, refl, ap, ◌∙◌, ap₂}
+use Rattle.std.proofs.Common.{◌≡◌, List, [], ◌∷◌, map, vec_items, refl, ap₂}
 use Rattle.exact.specs.Cyclotomic.{Cyclotomic, CyclotomicLaws}
-use Rattle.exact.specs.JobNumbers.{Part, Step}
-use Rattle.chains.specs.Books as books
 use Rattle.chains.specs.Books.{label_of, placement_of, tile_of, book_of, seeds_of}
 use Rattle.edges.specs.declared.rows.Label.{Label}
 use Rattle.edges.specs.declared.rows.Placement.{Placement as Placed}

@@ -1,5 +1,5 @@
 -- Lists that are cut or filled up to d coefficients, and the elements that they are read as.
-use Rattle.std.proofs.Common.{◌≡◌, ℕ, zero, suc, ◌+◌, ◌<◌, ◌≤◌, Bool, List, [], ◌∷◌, length, get_or, drop, ℤ, pos, sym, refl, ap, ◌∙◌, arith, drop-cons}
+use Rattle.std.proofs.Common.{◌≡◌, ℕ, zero, suc, ◌+◌, ◌<◌, Bool, List, ◌∷◌, length, get_or, drop, ℤ, pos, sym, refl, ap, ◌∙◌, arith, drop-cons}
 use Rattle.std.proofs.lemmas.List.{drop_all}
 use Rattle.exact.specs.Cyclotomic.{Cyclotomic, CyclotomicLaws}
 use Rattle.exact.specs.JobNumbers.{PlacedNumbers}

@@ -1,5 +1,4 @@
 -- Two proofs that two jobs have the same numbers are the same.
-use Rattle.std.proofs.Common.{Bool, List, ℤ}
 use mathlib.Core.Bool.{Bool-discrete}
 use mathlib.Core.HLevel.{hedberg}
 use mathlib.Core.List.{is_set}

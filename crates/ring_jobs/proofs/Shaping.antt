@@ -1,14 +1,14 @@
 -- What a job in range has over any ring, and what stays when its lists of coefficients are put through a function.
-use Rattle.std.proofs.Common.{◌≡◌, ℕ, zero, suc, ◌+◌, ◌<◌, ◌≤◌, Bool, List, [], ◌∷◌, map, length, get_or, ℤ, pos, IsErrAnd, Ok, Err, vec_items, vec_len, Result, sym, refl, ap, ◌∙◌, subst, ap₂, arith, MatchResult}
+use Rattle.std.proofs.Common.{◌≡◌, ℕ, zero, suc, ◌<◌, ◌≤◌, Bool, List, [], ◌∷◌, map, length, get_or, ℤ, pos, IsErrAnd, Ok, Err, vec_items, Result, sym, refl, ap, ◌∙◌, subst, ap₂, arith, MatchResult}
 use mathlib.Core.Logic.{∥∥₁_elim, ∥∥₁_prop}
 use Rattle.std.specs.List.{AllByRecursion}
-use Rattle.std.proofs.lemmas.List.{length-map, get_or_past}
-use Rattle.std.proofs.ByRecursion.{All-get_or, All-map, All-weaker}
+use Rattle.std.proofs.lemmas.List.{length-map}
+use Rattle.std.proofs.ByRecursion.{All-map, All-weaker}
 use Rattle.exact.specs.Cyclotomic.{Cyclotomic, CyclotomicLaws}
 use Rattle.exact.specs.JobNumbers.{Part, LabelNumbers, PlacedNumbers, TileNumbers, JobNumbers}
 use Rattle.exact.specs.Sizes.{Between, Within}
 use Rattle.exact.proofs.Sizes.{abs_between}
-use Rattle.rings.specs.Plane.{plane_bound, OnPlane, fitted_from, read_list}
+use Rattle.rings.specs.Plane.{plane_bound, fitted_from}
 use Rattle.jobs.specs.Limits.{most_parts}
 use Rattle.jobs.specs.Fronts.{Head}
 use Rattle.jobs.specs.Rows.{part_of, step_of, placed_of, tile_of}
@@ -25,7 +25,7 @@ use Rattle.jobs.specs.Fronts.{labelled}
 use Rattle.jobs.specs.Ranges.{Coefficient, LabelFits, TileFits, PlacedFits, InRange, kinds_of}
 use Rattle.ring_jobs.specs.Shapes.{label_with, placed_with, tile_with, numbers_with, Branching}
 use Rattle.ring_jobs.specs.Fitted.{fitted, relisted_label, relisted_placed, relisted_tile, relisted, fitted_job}
-use Rattle.ring_jobs.specs.RingJobs.{ListedOnPlane, LabelOnPlane, PlacedOnPlane, TileOnPlane}
+use Rattle.ring_jobs.specs.RingJobs.{ListedOnPlane, PlacedOnPlane, TileOnPlane}
 use Rattle.ring_jobs.specs.Small.{SmallTile}
 use Rattle.ring_jobs.proofs.Reading.{fitted_length, fitted_same, placed_same}
 use Rattle.ring_jobs.proofs.Rowwise.{tile_same, label_same}

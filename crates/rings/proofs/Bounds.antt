@@ -1,11 +1,11 @@
 -- Sums and products of coefficients, as the machine works them out.
-use Rattle.std.proofs.Common.{◌≡◌, ℕ, ◌+◌, ◌-◌, ◌*◌, ◌%◌, ◌<◌, ◌≤◌, Bool, ℤ, pos, negsuc, ◌+ℤ◌, ◌*ℤ◌, neg_ℤ, nat_abs, ◌≤ℤ◌, Result, sym, refl, ap, ◌∙◌, subst, ap₂, mul-le-mul, arith, lit≤, w64, SFits, to_z, of_z}
+use Rattle.std.proofs.Common.{◌≡◌, ℕ, ◌+◌, ◌-◌, ◌*◌, ◌%◌, Bool, ℤ, pos, ◌+ℤ◌, ◌*ℤ◌, neg_ℤ, ◌≤ℤ◌, Result, sym, ap, ◌∙◌, subst, ap₂, arith, lit≤, w64, SFits, to_z, of_z}
 use lib.Signed.{lt_z}
 use borrow.Author.Differences.{ints, fits_out, same_out, Apart-out, lt_T, le_T, lt_not, le_not, lt-true, lt-false, le-true, le-false, true-lt, false-lt, true-le, false-le, not_negative_out, lt_out, le_out, fits_in, same_in, lt_in, le_in, below_in, at_most_in, not_negative_in, true_is_lt, false_is_lt, true_is_le, false_is_le, sum_is_lem, neg_is, abs_is, mag_is, back_is, small_is, read_fits, bits_is}
 use Rattle.std.specs.Int.{int_wrap}
 use Rattle.std.proofs.lemmas.Int.{to_z-of_z, wrapping_add_is, wrapping_sub_is, int_wrap_fits}
 use Rattle.exact.specs.Cyclotomic.{Cyclotomic}
-use Rattle.exact.specs.Residues.{Residue, residue}
+use Rattle.exact.specs.Residues.{residue}
 use Rattle.exact.proofs.Totals.{residue_at, residue_add, residue_neg}
 use Rattle.exact.proofs.Surds.{square_above}
 use Rattle.exact.proofs.Sizes.{product_between, sweep_size, within_wider}

@@ -1,5 +1,5 @@
 -- What each fault of a ring refuses with.
-use Rattle.std.specs.Prelude.{◌≡◌, ℕ, Some}
+use Rattle.std.specs.Prelude.{◌≡◌, Some}
 use Rattle.refusals.specs.Refusal.{Refusal}
 use Rattle.refusals.specs.declared.Layer.TheVariants.{Ring}
 use Rattle.rings.specs.declared.fault.RingFault.{RingFault}

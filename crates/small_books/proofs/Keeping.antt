@@ -1,15 +1,14 @@
 -- The sizes of all that the check of a small book works out.
-use Rattle.std.proofs.Common.{◌≡◌, ℕ, zero, suc, ◌+◌, ◌*◌, ◌<◌, ◌≤◌, Bool, true, false, cond, List, [], ◌∷◌, ◌++◌, map, length, ℤ, sym, refl, ap, ◌∙◌, subst, ap₂, arith}
+use Rattle.std.proofs.Common.{◌≡◌, ℕ, suc, ◌+◌, ◌*◌, ◌≤◌, Bool, true, false, cond, List, [], ◌∷◌, length, ℤ, refl, ap, subst, arith}
 use mathlib.Core.List.{flat_map}
 use Rattle.std.specs.List.{AllByRecursion}
 use Rattle.std.proofs.ByRecursion.{All-map, All-append, All-weaker}
 use Rattle.exact.specs.Cyclotomic.{Cyclotomic, CyclotomicLaws, power}
 use Rattle.exact.specs.JobNumbers.{Part, Step}
 use Rattle.exact.specs.Sizes.{Within, SizeLaws}
-use Rattle.exact.specs.Sweeps.{sweep, sweep_through}
+use Rattle.exact.specs.Sweeps.{sweep_through}
 use Rattle.exact.proofs.Sizes.{within_wider, sweep_size}
 use Rattle.rings.specs.Plane.{OnPlane, plane_bound, height_bound}
-use Rattle.chains.specs.Counts as counts
 use Rattle.chains.specs.Counts.{scaled}
 use Rattle.chains.specs.Books.{Book, Placement, label_at, tile_at}
 use Rattle.chains.specs.Edges.{Edge, Chain, along, edge, step_count, walk, corners}
@@ -17,7 +16,7 @@ use Rattle.chains.specs.Inflation.{stepped, subdivided, inflate}
 use Rattle.chains.specs.Placements.{image, placed, placed_entry, placed_edge, outline, placed_outline, outlines}
 use Rattle.chains.specs.Accepted.{lengths, total_sweep}
 use Rattle.edges.specs.Limits.{most_parts, most_steps}
-use Rattle.edges.specs.Working.{KeptAlong, KeptImage, KeptCanonical, KeptForms, KeptWalk, KeptOutline, KeptPlacedOutline, KeptSubdivided, KeptInflated}
+use Rattle.edges.specs.Working.{KeptAlong, KeptImage, KeptForms, KeptWalk, KeptOutline, KeptPlacedOutline, KeptSubdivided}
 use Rattle.book.specs.Points.{KeptFactor, KeptLength, KeptLengths, KeptSubdivision, KeptRound, KeptBalance}
 use Rattle.book.proofs.Added.{zero_within}
 use Rattle.book.proofs.Short.{stepped_length}

@@ -1,7 +1,7 @@
 -- The list of 1 is 1, 0, 0, ..
-use Rattle.std.proofs.Common.{◌≡◌, ℕ, zero, suc, ◌≤◌, List, [], ◌∷◌, length, ℤ, pos, sym, refl, ap, ◌∙◌, subst, ap₂, arith}
+use Rattle.std.proofs.Common.{◌≡◌, ℕ, zero, suc, List, [], ◌∷◌, length, ℤ, pos, sym, refl, ap, ◌∙◌, subst, arith}
 use Rattle.std.proofs.lemmas.Int.{ints}
-use Rattle.exact.specs.Cyclotomic.{Cyclotomic, CyclotomicLaws, combination, whole_times}
+use Rattle.exact.specs.Cyclotomic.{Cyclotomic, CyclotomicLaws, combination}
 use Rattle.exact.specs.Sizes.{Between, Within}
 use Rattle.exact.proofs.Powers.{ring_of}
 use Rattle.exact.proofs.Solver as solver

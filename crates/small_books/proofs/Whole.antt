@@ -1,5 +1,5 @@
 -- All points of a small book.
-use Rattle.std.proofs.Common.{◌≡◌, ℕ, ◌<◌, ◌≤◌, [], ◌∷◌, ◌++◌, length, Ok, Err, Result, sym, refl, subst, inl, inr, arith, MatchResult}
+use Rattle.std.proofs.Common.{ℕ, length, Ok, Err, Result, sym, subst, inl, inr, arith, MatchResult}
 use Rattle.std.proofs.lemmas.Bool.{cases_lt}
 use Rattle.std.proofs.lemmas.List.{get_or_past}
 use Rattle.std.proofs.ByRecursion.{All-append}
@@ -14,7 +14,7 @@ use Rattle.book.specs.Points.{Kept, Rejects, WorkedOnThePlane, points, length_po
 use Rattle.book.specs.Points.Point.{length_of, subdivision_of, outline_of, children_of}
 use Rattle.book.proofs.Added.{zero_within}
 use Rattle.book.proofs.Judging.{all_below}
-use Rattle.small_books.specs.Sizes.{Small, Limited, NotAccepted, SmallBooksStayOnThePlane}
+use Rattle.small_books.specs.Sizes.{Small, NotAccepted, SmallBooksStayOnThePlane}
 use Rattle.small_books.proofs.Keeping.{kept_factor, kept_length, kept_subdivision, kept_round, kept_balance}
 
 module _ (E : Cyclotomic) (L : CyclotomicLaws E) (Z : SizeLaws E) where

@@ -1,4 +1,3 @@
-use Rattle.std.proofs.Common.{sym, ap, ◌∙◌, arith, rules}
 use Rattle.std.proofs.lemmas.Slice.{first_rest}
 use Rattle.lines.proofs.after.Goals as goal
 

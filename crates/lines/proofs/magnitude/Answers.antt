@@ -1,8 +1,7 @@
-use Rattle.std.proofs.Common.{◌≡◌, ◌<◌, length, get_or, take, drop, sym, refl, ap, ◌∙◌, subst, ⊎_elim, arith, rules}
+use Rattle.std.proofs.Common.{◌≡◌, ◌<◌, length, get_or, take, arith}
 use native.Mathlib.Nat.{sub-zero}
 use Rattle.std.specs.Str.Parse.{digits_value}
-use Rattle.std.proofs.lemmas.List.{take_rest, length-take-le, get_or-take}
-use Rattle.lines.specs.Spelling.{Plain}
+use Rattle.std.proofs.lemmas.List.{take_rest}
 use Rattle.lines.proofs.Decimal.{plain_front, front_digits, run_some, run_few, run_lead, run_stop}
 use Rattle.lines.proofs.magnitude.Goals as goal
 use Rattle.lines.proofs.magnitude.Goals.{else-n-gt1-via-then-n-gt1+else-s-eq48, else-n-gt1-via-else-n-gt1, else-n-s-via-then-n-s+else-s-n-ne32, else-n-s-via-else-n-s}

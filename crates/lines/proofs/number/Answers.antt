@@ -1,4 +1,4 @@
-use Rattle.std.proofs.Common.{suc, arith, rules}
+use Rattle.std.proofs.Common.{suc, arith}
 use Rattle.lines.proofs.Decimal.{minus_word, plain_unique}
 use Rattle.lines.proofs.number.Goals as goal
 

@@ -1,4 +1,4 @@
-use Rattle.std.proofs.Common.{◌≡◌, [], ◌∷◌, ◌++◌, vec_items, sym, refl, subst, arith, rules}
+use Rattle.std.proofs.Common.{◌≡◌, [], ◌∷◌, ◌++◌, vec_items, sym, subst, arith, rules}
 use Rattle.lines.proofs.Sequence.{Upto, upto_more, upto_all, upto_stuck, word_shorter}
 use Rattle.lines.proofs.numbers.Goals as goal
 

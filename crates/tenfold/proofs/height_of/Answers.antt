@@ -1,4 +1,4 @@
-use Rattle.std.proofs.Common.{◌≡◌, ◌+ℤ◌, ◌∙◌, ap₂, w8, w64}
+use Rattle.std.proofs.Common.{◌+ℤ◌, ◌∙◌, ap₂, w8, w64}
 use Rattle.std.proofs.lemmas.Int.{to_z-of_z}
 use Rattle.exact.specs.Signs.{golden_sign}
 use Rattle.rings.proofs.Bounds.{back_between}

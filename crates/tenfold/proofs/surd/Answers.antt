@@ -1,4 +1,4 @@
-use Rattle.std.proofs.Common.{◌≡◌, cond, sym, ap, ◌∙◌, w8, w64, SFits}
+use Rattle.std.proofs.Common.{cond, sym, ap, ◌∙◌, w8, w64}
 use Rattle.std.proofs.lemmas.Int.{to_z-of_z}
 use Rattle.exact.specs.Signs.{sign}
 use Rattle.rings.proofs.Bounds.{tested, between_back}

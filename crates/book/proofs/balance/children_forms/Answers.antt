@@ -1,4 +1,4 @@
-use Rattle.std.proofs.Common.{◌≡◌, map, sym, refl, ap, ◌∙◌, subst}
+use Rattle.std.proofs.Common.{map, sym, ap, ◌∙◌, subst}
 use Rattle.chains.specs.Edges.{canonical}
 use Rattle.edges.specs.Views.{chain_view, book_view}
 use Rattle.edges.specs.Working.{KeptForms}

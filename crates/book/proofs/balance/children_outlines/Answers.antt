@@ -1,4 +1,4 @@
-use Rattle.std.proofs.Common.{◌≡◌, map, sym, refl, ap, ◌∙◌, subst}
+use Rattle.std.proofs.Common.{map, sym, ap, ◌∙◌, subst}
 use mathlib.Core.List.{flat_map}
 use Rattle.std.specs.List.{AllByRecursion}
 use Rattle.chains.specs.Placements.{outlines}

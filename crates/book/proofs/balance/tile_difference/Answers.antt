@@ -1,9 +1,8 @@
-use Rattle.std.proofs.Common.{◌≡◌, map, sym, refl, ap, ◌∙◌, subst, arith}
+use Rattle.std.proofs.Common.{ap, ◌∙◌, arith}
 use Rattle.chains.specs.Books.{tile_at}
 use Rattle.chains.specs.Edges.{canonical}
 use Rattle.chains.specs.Inflation.{inflate}
 use Rattle.chains.specs.Placements.{outline, outlines}
-use Rattle.edges.specs.Limits.{most_parts, most_steps, most_children}
 use Rattle.edges.specs.Views.{chain_view, book_view}
 use Rattle.edges.proofs.Gather.{handed_on}
 use Rattle.book.proofs.Short.{as_long, parts_count, whole_count}

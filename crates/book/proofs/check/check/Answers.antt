@@ -1,7 +1,5 @@
-use Rattle.std.proofs.Common.{◌≡◌, sym, refl, ap, ◌∙◌, subst}
 use Rattle.edges.specs.Views.{book_view}
 use Rattle.book.proofs.Judging.{after_factor, after_lengths, after_subdivisions, after_outlines, before_all, judged_err, decided}
-use Rattle.book.specs.Points.{points}
 use Rattle.book.proofs.check.check.Goals as goal
 
 pub returns-in_err-check_factor : goal.returns-in_err-check_factor

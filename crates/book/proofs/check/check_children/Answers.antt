@@ -1,4 +1,4 @@
-use Rattle.std.proofs.Common.{◌≡◌, sym, refl, ap, ◌∙◌, subst, arith, below_more}
+use Rattle.std.proofs.Common.{sym, refl, ◌∙◌, arith, below_more}
 use Rattle.std.proofs.lemmas.Option.{MatchOption-at_some, MatchOption-at_none}
 use Rattle.edges.specs.Views.{book_view}
 use Rattle.edges.proofs.Numbered.{tiles_many}

@@ -1,4 +1,4 @@
-use Rattle.std.proofs.Common.{◌≡◌, sym, refl, ap, ◌∙◌, subst}
+use Rattle.std.proofs.Common.{sym, refl, ◌∙◌}
 use Rattle.edges.specs.Views.{book_view}
 use Rattle.edges.proofs.Numbered.{labels_many}
 use Rattle.book.proofs.Tests.{yes, no}

@@ -1,4 +1,4 @@
-use Rattle.std.proofs.Common.{◌≡◌, ◌<◌, sym, refl, ap, ◌∙◌, subst, arith, below_more}
+use Rattle.std.proofs.Common.{sym, refl, ◌∙◌, arith, below_more}
 use Rattle.edges.specs.Views.{book_view}
 use Rattle.edges.proofs.Numbered.{labels_many}
 use Rattle.book.specs.Points.{Passed}

@@ -1,4 +1,4 @@
-use Rattle.std.proofs.Common.{◌≡◌, pos, sym, refl, ap, ◌∙◌, subst, true≢false}
+use Rattle.std.proofs.Common.{◌≡◌, pos, sym, ap, ◌∙◌, subst, true≢false}
 use Rattle.rings.specs.Plane.{OnPlane}
 use Rattle.edges.specs.Views.{book_view}
 use Rattle.book.proofs.Tests.{test_broke_off, ended}

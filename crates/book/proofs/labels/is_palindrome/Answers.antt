@@ -1,4 +1,4 @@
-use Rattle.std.proofs.Common.{◌≡◌, false, sym, refl, ◌∙◌, arith, below_more}
+use Rattle.std.proofs.Common.{false, sym, refl, ◌∙◌, arith, below_more}
 use mathlib.Core.Bool.{false≢true}
 use Rattle.job_rows.specs.declared.Part.{Part}
 use Rattle.edges.specs.Views.{book_view}

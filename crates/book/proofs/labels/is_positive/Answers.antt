@@ -1,4 +1,4 @@
-use Rattle.std.proofs.Common.{◌≡◌, sym, refl, ap, ◌∙◌, subst, arith, w8, SFits, rules}
+use Rattle.std.proofs.Common.{sym, ap, ◌∙◌, subst, arith, w8, SFits, rules}
 use Rattle.exact.proofs.Sizes.{within_wider}
 use Rattle.rings.specs.Plane.{OnPlane, plane_bound, height_bound}
 use Rattle.book.proofs.Tests.{broke_off, first_power, one_decided}

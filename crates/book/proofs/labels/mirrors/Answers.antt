@@ -1,4 +1,4 @@
-use Rattle.std.proofs.Common.{◌≡◌, false, sym, refl, ap, ◌∙◌}
+use Rattle.std.proofs.Common.{ap}
 use mathlib.Core.Bool.{false≢true}
 use Rattle.chains.specs.Accepted.{turned_part}
 use Rattle.edges.specs.Views.{book_view, part_view}

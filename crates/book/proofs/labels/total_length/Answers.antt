@@ -1,5 +1,4 @@
-use Rattle.std.proofs.Common.{◌≡◌, ◌-◌, ◌<◌, ◌≤◌, false, map, length, drop, sym, refl, ap, ◌∙◌, subst, ap₂, arith}
-use Rattle.std.proofs.lemmas.Result.{err_from_is_err_and}
+use Rattle.std.proofs.Common.{◌≡◌, ◌-◌, false, map, length, drop, sym, ap, ◌∙◌, subst, ap₂, arith}
 use Rattle.rings.specs.Plane.{OnPlane}
 use Rattle.chains.specs.Accepted.{lengths}
 use Rattle.job_rows.specs.declared.Part.{Part}

@@ -1,4 +1,4 @@
-use Rattle.std.proofs.Common.{◌≡◌, sym, ap, ◌∙◌}
+use Rattle.std.proofs.Common.{sym, ◌∙◌}
 use Rattle.book.proofs.Tallying.{same_at, other_label, other_dir}
 use Rattle.book.proofs.nets.equal.Goals as goal
 

@@ -1,7 +1,7 @@
 use Rattle.std.proofs.Common.{◌≡◌, pos, sym, refl, ap, ◌∙◌, subst, append-nil, arith, w64, to_z, of_z}
 use Rattle.std.proofs.lemmas.Int.{ints}
 use Rattle.std.specs.List.{AllByRecursion}
-use Rattle.book.proofs.Sides.{passed, Side, split, passed_more, passed_all, side_of, step}
+use Rattle.book.proofs.Sides.{split, passed_more, passed_all, side_of, step}
 use Rattle.book.proofs.Balances.{Passes, agree, first}
 use Rattle.book.proofs.nets.first_difference.Goals as goal
 

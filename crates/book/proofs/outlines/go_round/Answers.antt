@@ -1,4 +1,4 @@
-use Rattle.std.proofs.Common.{◌≡◌, false, sym, refl, ap, ◌∙◌, subst}
+use Rattle.std.proofs.Common.{false, ap, ◌∙◌}
 use Rattle.exact.specs.Residues.{totals}
 use Rattle.job_rows.specs.declared.Step.{Step}
 use Rattle.edges.specs.Views.{book_view}

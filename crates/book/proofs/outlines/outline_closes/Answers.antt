@@ -1,7 +1,7 @@
-use Rattle.std.proofs.Common.{◌≡◌, map, sym, refl, ap, ◌∙◌, subst, true≢false, w8, SFits, rules}
+use Rattle.std.proofs.Common.{map, sym, refl, ap, ◌∙◌, true≢false, w8, SFits, rules}
 use Rattle.edges.specs.Views.{book_view, step_view}
 use Rattle.edges.proofs.Numbered.{tile_is}
-use Rattle.book.proofs.Tests.{test_broke_off, equal_decided, one_decided, decided}
+use Rattle.book.proofs.Tests.{test_broke_off, equal_decided, one_decided}
 use Rattle.book.proofs.Closing.{walked, area_is, closes_then, opens_then, kept_then}
 use Rattle.book.proofs.outlines.outline_closes.Goals as goal
 

@@ -1,4 +1,4 @@
-use Rattle.std.proofs.Common.{◌≡◌, true, false, sym, refl, ap, ◌∙◌, subst, true≢false}
+use Rattle.std.proofs.Common.{◌≡◌, true, false, sym, refl, ◌∙◌, true≢false}
 use Rattle.edges.specs.Views.{book_view, edge_view, count_of}
 use Rattle.edges.specs.Working.{as_it_stands}
 use Rattle.edges.proofs.Entries.{entry_same, stays, turns, count_not}

@@ -1,4 +1,4 @@
-use Rattle.std.proofs.Common.{sym, ap, ◌∙◌, subst}
+use Rattle.std.proofs.Common.{ap, ◌∙◌, subst}
 use Rattle.exact.specs.Cyclotomic.{power}
 use Rattle.rings.specs.Plane.{OnPlane}
 use Rattle.chains.specs.Edges.{along}

@@ -1,4 +1,4 @@
-use Rattle.std.proofs.Common.{sym, ap, ◌∙◌, subst}
+use Rattle.std.proofs.Common.{ap, ◌∙◌, subst}
 use Rattle.rings.specs.Plane.{OnPlane}
 use Rattle.chains.specs.Placements.{image}
 use Rattle.edges.proofs.Workings.{last_one}

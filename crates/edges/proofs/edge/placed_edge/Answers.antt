@@ -1,4 +1,3 @@
-use Rattle.std.proofs.Common.{sym, ap, ◌∙◌}
 use Rattle.chains.specs.Placements.{placed_entry, placed_edge, signed}
 use Rattle.edges.proofs.Entries.{entry_same, count_mirrored}
 use Rattle.edges.proofs.edge.placed_edge.Goals as goal

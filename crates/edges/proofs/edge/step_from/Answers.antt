@@ -1,4 +1,4 @@
-use Rattle.std.proofs.Common.{◌≡◌, sym, refl, ap, ◌∙◌}
+use Rattle.std.proofs.Common.{sym, refl, ◌∙◌}
 use Rattle.edges.specs.Views.{book_view, step_view}
 use Rattle.edges.proofs.Entries.{entry_same, goes_forward, goes_back}
 use Rattle.edges.proofs.edge.step_from.Goals as goal

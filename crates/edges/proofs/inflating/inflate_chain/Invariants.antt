@@ -1,4 +1,4 @@
-use Rattle.std.proofs.Common.{◌≡◌, ◌++◌, map, drop, vec_items}
+use Rattle.std.proofs.Common.{◌≡◌, ◌++◌, drop, vec_items}
 use Rattle.edges.specs.Views.{chain_view, book_view}
 use Rattle.edges.specs.Working.{KeptInflated}
 use Rattle.edges.proofs.Chained.{inflated_rest}

@@ -1,4 +1,4 @@
-use Rattle.std.proofs.Common.{◌≡◌, ◌++◌, vec_items, sym, refl, ap, ◌∙◌, subst}
+use Rattle.std.proofs.Common.{◌++◌, vec_items, refl, ap, ◌∙◌}
 use Rattle.edges.specs.Views.{chain_view, counted_view}
 use Rattle.edges.proofs.Entries.{entry_same, count_times}
 use Rattle.edges.proofs.Gather.{push_more, push_end, no_memory}

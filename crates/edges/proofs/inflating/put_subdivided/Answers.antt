@@ -1,4 +1,4 @@
-use Rattle.std.proofs.Common.{◌≡◌, ◌++◌, vec_items, sym, refl, ap, ◌∙◌, subst}
+use Rattle.std.proofs.Common.{◌++◌, vec_items, ap, ◌∙◌}
 use Rattle.chains.specs.Counts.{scaled}
 use Rattle.edges.specs.Views.{chain_view, count_of}
 use Rattle.edges.proofs.Gather.{made_weaker, handed_on}

@@ -1,5 +1,4 @@
-use Rattle.std.proofs.Common.{◌≡◌, map, sym, refl, ap, ◌∙◌, subst, ap₂}
-use Rattle.rings.specs.Plane.{OnPlane}
+use Rattle.std.proofs.Common.{map, sym, ap, ◌∙◌, subst, ap₂}
 use Rattle.chains.specs.Edges.{walk}
 use Rattle.chains.specs.Inflation.{subdivided}
 use Rattle.edges.specs.Views.{step_view, book_view}

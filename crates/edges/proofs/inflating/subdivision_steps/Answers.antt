@@ -1,4 +1,4 @@
-use Rattle.std.proofs.Common.{◌≡◌, map, sym, refl, ap, ◌∙◌, subst}
+use Rattle.std.proofs.Common.{map, sym, ap, ◌∙◌}
 use Rattle.chains.specs.Inflation.{stepped}
 use Rattle.edges.specs.Views.{step_view, part_view}
 use Rattle.edges.proofs.Numbered.{label_is, label_past}

@@ -1,4 +1,4 @@
-use Rattle.std.proofs.Common.{sym, ap, ◌∙◌}
+use Rattle.std.proofs.Common.{sym, ap}
 use Rattle.edges.proofs.Numbered.{label_is, label_past}
 use Rattle.edges.proofs.lookups.is_arrowed.Goals as goal
 

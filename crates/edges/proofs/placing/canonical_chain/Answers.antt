@@ -1,4 +1,4 @@
-use Rattle.std.proofs.Common.{◌≡◌, vec_items, sym, refl, ap, ◌∙◌, subst}
+use Rattle.std.proofs.Common.{vec_items, ◌∙◌}
 use Rattle.edges.specs.Views.{counted_view, book_view}
 use Rattle.edges.specs.Working.{KeptCanonical}
 use Rattle.edges.proofs.Gather.{push_more, push_end, all_step, all_end, all_row, off_plane, no_memory}

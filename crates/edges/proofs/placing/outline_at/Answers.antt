@@ -1,4 +1,4 @@
-use Rattle.std.proofs.Common.{◌≡◌, sym, refl, ap, ◌∙◌, subst}
+use Rattle.std.proofs.Common.{ap, ◌∙◌}
 use Rattle.edges.specs.Views.{chain_view}
 use Rattle.edges.proofs.Gather.{behind_none, handed_on}
 use Rattle.edges.proofs.placing.outline_at.Goals as goal

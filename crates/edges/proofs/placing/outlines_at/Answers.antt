@@ -1,4 +1,3 @@
-use Rattle.std.proofs.Common.{◌≡◌, sym, refl, ap, ◌∙◌, subst}
 use Rattle.edges.specs.Views.{placement_view, book_view}
 use Rattle.edges.specs.Working.{KeptPlacedOutline}
 use Rattle.edges.proofs.Gather.{join_more, join_end, all_step, all_end, all_row, handed_on}

@@ -1,4 +1,4 @@
-use Rattle.std.proofs.Common.{◌≡◌, ◌++◌, vec_items, sym, refl, ap, ◌∙◌, subst}
+use Rattle.std.proofs.Common.{◌++◌, vec_items, sym, ap, ◌∙◌, subst}
 use Rattle.chains.specs.Placements.{placed, placed_outline}
 use Rattle.edges.specs.Views.{chain_view, placement_view}
 use Rattle.edges.specs.Working.{KeptPlaced, KeptPlacedOutline}

@@ -1,4 +1,4 @@
-use Rattle.std.proofs.Common.{◌≡◌, ◌+◌, false, [], ◌∷◌, ◌++◌, map, get_or, drop, vec_items, sym, refl, ap, ◌∙◌, subst, append-nil}
+use Rattle.std.proofs.Common.{◌+◌, false, ◌++◌, map, drop, vec_items, sym, ap, ◌∙◌, subst, append-nil}
 use Rattle.chains.specs.Edges.{corners}
 use Rattle.job_rows.specs.declared.Step.{Step}
 use Rattle.edges.specs.Views.{step_view, book_view}

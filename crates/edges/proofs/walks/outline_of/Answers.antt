@@ -1,4 +1,4 @@
-use Rattle.std.proofs.Common.{◌≡◌, map, sym, refl, ap, ◌∙◌, subst, ap₂}
+use Rattle.std.proofs.Common.{map, sym, ap, ◌∙◌, subst, ap₂}
 use Rattle.chains.specs.Edges.{walk}
 use Rattle.chains.specs.Placements.{outline}
 use Rattle.edges.specs.Views.{chain_view, step_view, book_view}

@@ -1,4 +1,4 @@
-use Rattle.std.proofs.Common.{◌≡◌, ℤ, ap, ◌∙◌, arith}
+use Rattle.std.proofs.Common.{ℤ, ap, ◌∙◌, arith}
 use Rattle.exact.specs.Quads.{Pair}
 use Rattle.exact.specs.Models.{gaussian}
 use Rattle.exact.proofs.GaussianLaws.{gaussian_laws}

@@ -1,4 +1,4 @@
-use Rattle.std.proofs.Common.{◌≡◌, sym, refl, ap, ◌∙◌, subst}
+use Rattle.std.proofs.Common.{sym, ◌∙◌, subst}
 use Rattle.chains.specs.Accepted.{Accepted}
 use Rattle.book.specs.Points.{WorkedOnThePlane}
 use Rattle.ring_jobs.specs.RingJobs.{OfTheRing, job_numbers}

@@ -1,4 +1,4 @@
-use Rattle.std.proofs.Common.{◌≡◌, sym, refl, ap, ◌∙◌, subst}
+use Rattle.std.proofs.Common.{sym, subst}
 use Rattle.exact.specs.JobNumbers.{JobNumbers}
 use Rattle.book.specs.Points.{WorkedOnThePlane}
 use Rattle.chains.specs.Books.{book_of}

@@ -1,4 +1,4 @@
-use Rattle.std.proofs.Common.{◌≡◌, ◌<◌, [], ◌∷◌, ◌++◌, map, length, vec_items, sym, refl, ap, ◌∙◌, subst, arith, rules}
+use Rattle.std.proofs.Common.{◌≡◌, map, vec_items, sym, ap, ◌∙◌, subst, rules}
 use Rattle.std.proofs.lemmas.List.{length-map, map_push}
 use Rattle.std.proofs.lemmas.Result.{err_from_is_err_and}
 use Rattle.lines.specs.Letters.{letter_S}
@@ -6,7 +6,7 @@ use Rattle.jobs.specs.declared.rows.Label.{Label}
 use Rattle.jobs.specs.Drafts.{front}
 use Rattle.jobs.specs.Fronts.{Place, kinds}
 use Rattle.jobs.specs.Ranges.{SubdivisionFits}
-use Rattle.jobs.specs.Rows.{head_of, part_of}
+use Rattle.jobs.specs.Rows.{part_of}
 use Rattle.jobs.proofs.Adds.{unfit_subdivision, set_subdivisions, kinds_heads}
 use Rattle.jobs.proofs.adding.add_subdivision.Goals as goal
 

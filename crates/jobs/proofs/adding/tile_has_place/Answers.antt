@@ -1,9 +1,7 @@
-use Rattle.std.proofs.Common.{◌≡◌, ◌+◌, ◌<◌, ◌⊎◌, length, inl, inr, ⊎_elim, arith, rules}
+use Rattle.std.proofs.Common.{◌≡◌, ◌<◌, length, inl, inr, ⊎_elim, arith, rules}
 use Rattle.std.proofs.lemmas.List.{length-map}
 use Rattle.std.proofs.lemmas.Bool.Decides.{Decides-like, Decides-ltb}
-use Rattle.lines.specs.Letters.{letter_T}
 use Rattle.jobs.specs.Drafts.{front}
-use Rattle.jobs.specs.Fronts.{Place}
 use Rattle.jobs.proofs.Decodes.{decides_no, decides_yes}
 use Rattle.jobs.proofs.adding.tile_has_place.Goals as goal
 

@@ -1,17 +1,12 @@
-use Rattle.std.proofs.Common.{◌≡◌, ◌+◌, ◌*◌, ◌<◌, ◌≤◌, [], map, length, Some, None, Ok, Err, vec_items, sym, refl, ap, ◌∙◌, subst, arith, rules, MatchResult}
-use Rattle.std.specs.List.{flat_map}
-use Rattle.std.proofs.lemmas.List.{length-map}
+use Rattle.std.proofs.Common.{◌≡◌, length, Ok, Err, vec_items, sym, refl, ◌∙◌, rules, MatchResult}
 use Rattle.std.proofs.lemmas.Result.{err_from_is_err_and}
 use Rattle.faults.specs.declared.TextFault.TheVariants.{Unfit, Overlong}
-use Rattle.jobs.specs.declared.job.Job.{Job}
 use Rattle.jobs.specs.Drafts.{front}
 use Rattle.jobs.specs.Faults.{Refuses}
-use Rattle.jobs.specs.Fronts.{job_of}
 use Rattle.jobs.specs.Jobs.{numbers}
 use Rattle.jobs.specs.Ranges.{InRange}
 use Rattle.jobs.specs.Refusals.{Refused, overlong}
-use Rattle.jobs.specs.Rows.{head_of, tile_of}
-use Rattle.jobs.specs.Spelled.{spelled, tile_lines}
+use Rattle.jobs.specs.Spelled.{spelled}
 use Rattle.jobs.proofs.Halts.{read_up, accepts_of, refuses_of, late_of, room_of, spelled_of}
 use Rattle.jobs.proofs.reading.read.Goals as goal
 

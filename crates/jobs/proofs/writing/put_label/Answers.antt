@@ -1,4 +1,4 @@
-use Rattle.std.proofs.Common.{◌≡◌, refl, ap}
+use Rattle.std.proofs.Common.{refl, ap}
 use Rattle.std.specs.List.{flat_map}
 use Rattle.lines.specs.Spelling.{word}
 use Rattle.jobs.proofs.Writes.{puts_then, puts_as}

@@ -1,8 +1,5 @@
-use Rattle.std.proofs.Common.{◌≡◌, ◌<◌, ◌≤◌, map, length, get_or, vec_items, sym, refl, ap, ◌∙◌, arith, rules}
-use Rattle.std.specs.List.{flat_map}
-use Rattle.std.proofs.lemmas.List.{length-map, get_or-map}
-use Rattle.jobs.specs.RowTexts.{label_text, steps_text, placed_text}
-use Rattle.jobs.proofs.Writes.{puts_then, puts_as, puts_none, puts_more, puts_all}
+use Rattle.jobs.specs.RowTexts.{label_text}
+use Rattle.jobs.proofs.Writes.{puts_more, puts_all}
 use Rattle.jobs.proofs.writing.put_labels.Goals as goal
 
 pub loop-label-preserved : goal.loop-label-preserved

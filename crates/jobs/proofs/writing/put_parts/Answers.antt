@@ -1,4 +1,4 @@
-use Rattle.std.proofs.Common.{◌≡◌, false, refl}
+use Rattle.std.proofs.Common.{false, refl}
 use Rattle.jobs.specs.RowTexts.{part_text}
 use Rattle.jobs.proofs.Writes.{puts_then, puts_as, puts_none, puts_more, puts_all}
 use Rattle.jobs.proofs.writing.put_parts.Goals as goal

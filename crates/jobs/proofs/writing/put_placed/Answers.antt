@@ -1,4 +1,4 @@
-use Rattle.std.proofs.Common.{◌≡◌, ◌∷◌, pos, vec_items, decimal, refl, ap}
+use Rattle.std.proofs.Common.{◌∷◌, pos, vec_items, decimal, ap}
 use Rattle.std.specs.List.{flat_map}
 use Rattle.lines.specs.Spelling.{word}
 use Rattle.jobs.specs.Spelled.{mark}

@@ -1,4 +1,4 @@
-use Rattle.std.proofs.Common.{map, take, vec_items}
+use Rattle.std.proofs.Common.{take}
 use Rattle.std.specs.List.{flat_map}
 use Rattle.jobs.specs.Puts.{Puts}
 use Rattle.jobs.specs.RowTexts.{placed_text}

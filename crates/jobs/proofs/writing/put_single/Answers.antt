@@ -1,7 +1,4 @@
-use Rattle.std.proofs.Common.{◌≡◌, ◌∷◌, pos, vec_items, decimal, refl, ap}
-use Rattle.std.specs.List.{flat_map}
-use Rattle.lines.specs.Spelling.{word}
-use Rattle.jobs.specs.Spelled.{mark}
+use Rattle.std.proofs.Common.{◌∷◌, decimal, refl, ap}
 use Rattle.jobs.proofs.Writes.{puts_then, puts_as}
 use Rattle.jobs.proofs.writing.put_single.Goals as goal
 

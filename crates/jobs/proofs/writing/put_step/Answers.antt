@@ -1,5 +1,4 @@
-use Rattle.std.proofs.Common.{◌≡◌, ◌∷◌, pos, vec_items, decimal, refl, ap}
-use Rattle.std.specs.List.{flat_map}
+use Rattle.std.proofs.Common.{◌∷◌, pos, decimal, ap}
 use Rattle.lines.specs.Spelling.{word}
 use Rattle.jobs.specs.Spelled.{mark}
 use Rattle.jobs.proofs.Writes.{puts_then, puts_as}

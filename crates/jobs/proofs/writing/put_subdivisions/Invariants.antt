@@ -1,7 +1,7 @@
 use Rattle.std.proofs.Common.{take, vec_items}
 use Rattle.std.specs.List.{flat_map}
 use Rattle.jobs.specs.Puts.{Puts}
-use Rattle.jobs.specs.RowTexts.{parts_text, tile_text}
+use Rattle.jobs.specs.RowTexts.{parts_text}
 use Rattle.jobs.proofs.writing.put_subdivisions.Given as goal
 
 abbrev pub invariant-loop-parts : goal.invariant-loop-parts

@@ -1,6 +1,6 @@
-use Rattle.std.proofs.Common.{◌≡◌, vec_items, ap}
+use Rattle.std.proofs.Common.{ap}
 use Rattle.std.specs.List.{flat_map}
-use Rattle.jobs.specs.RowTexts.{parts_text, steps_text, placed_text, tile_text}
+use Rattle.jobs.specs.RowTexts.{steps_text, placed_text, tile_text}
 use Rattle.jobs.proofs.Writes.{puts_then, puts_as, puts_more, puts_all}
 use Rattle.jobs.proofs.writing.put_tiles.Goals as goal
 

@@ -1,4 +1,4 @@
-use Rattle.std.proofs.Common.{◌≡◌, sym, refl, ap, ◌∙◌, subst}
+use Rattle.std.proofs.Common.{◌≡◌, sym, ap, ◌∙◌, subst}
 use Rattle.chains.specs.Books as books
 use Rattle.chains.specs.Placements.{image, stretched, child_of}
 use Rattle.edges.specs.Views.{placement_view, book_view}

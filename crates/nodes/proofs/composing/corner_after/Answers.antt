@@ -1,6 +1,5 @@
-use Rattle.std.proofs.Common.{◌≡◌, sym, refl, ap, ◌∙◌, subst}
+use Rattle.std.proofs.Common.{sym, subst}
 use Rattle.std.proofs.lemmas.Bool.{and_parts, and_from}
-use Rattle.chains.specs.Edges.{along}
 use Rattle.edges.specs.Views.{placement_view, book_view}
 use Rattle.edges.specs.Working.{KeptImage}
 use Rattle.nodes.proofs.Testing.{image_yes, yes_image, along_yes, yes_along, off_at}

@@ -1,4 +1,4 @@
-use Rattle.std.proofs.Common.{◌≡◌, ◌+◌, true, false, ◌&&◌, map, get_or, drop, sym, refl, ap, ◌∙◌, subst, ap₂}
+use Rattle.std.proofs.Common.{◌+◌, false, ◌&&◌, map, drop, sym, ◌∙◌, ap₂}
 use Rattle.std.proofs.lemmas.Bool.{and_left}
 use Rattle.job_rows.specs.declared.Step.{Step}
 use Rattle.jobs.specs.Rows.{step_of}

@@ -1,4 +1,4 @@
-use Rattle.std.proofs.Common.{◌≡◌, map, sym, refl, ap, ◌∙◌, subst}
+use Rattle.std.proofs.Common.{map, sym, ap, ◌∙◌}
 use Rattle.jobs.specs.Rows.{step_of}
 use Rattle.edges.specs.Views.{placement_view, book_view}
 use Rattle.edges.proofs.Numbered.{tile_is, tile_past}

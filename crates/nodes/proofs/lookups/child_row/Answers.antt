@@ -1,4 +1,4 @@
-use Rattle.std.proofs.Common.{◌≡◌, ◌<◌, ◌≤◌, [], length, get_or, sym, refl, ap, ◌∙◌, subst, zero-le}
+use Rattle.std.proofs.Common.{◌<◌, ◌≤◌, length, get_or, sym, ap, ◌∙◌, subst, zero-le}
 use Rattle.ring_jobs.specs.RingJobs.{coefficients}
 use Rattle.nodes.proofs.Numbered.{children_are, no_children, entry_is, entry_past}
 use Rattle.nodes.proofs.lookups.child_row.Goals as goal

@@ -1,5 +1,5 @@
-use Rattle.std.proofs.Common.{◌≡◌, ◌<◌, ◌≤◌, vec_items, sym, refl, ap, ◌∙◌, subst}
-use Rattle.ring_jobs.specs.RingJobs.{coefficients, job_numbers}
+use Rattle.std.proofs.Common.{◌<◌, ◌≤◌, vec_items, ◌∙◌, subst}
+use Rattle.ring_jobs.specs.RingJobs.{coefficients}
 use Rattle.nodes.proofs.Numbered.{seeds_are, entry_is, entry_past}
 use Rattle.nodes.proofs.lookups.seed_row.Goals as goal
 

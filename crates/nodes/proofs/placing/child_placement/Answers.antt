@@ -1,4 +1,4 @@
-use Rattle.std.proofs.Common.{◌≡◌, sym, refl, ap, ◌∙◌}
+use Rattle.std.proofs.Common.{sym, ap, ◌∙◌}
 use Rattle.ring_jobs.specs.RingJobs.{job_numbers}
 use Rattle.nodes.specs.Table.{cornered}
 use Rattle.nodes.proofs.Downward.{fault_entry_of, cornered_fault}

@@ -1,4 +1,4 @@
-use Rattle.std.proofs.Common.{◌≡◌, ◌<◌, ◌≤◌, length, sym, refl, ap, ◌∙◌, subst, arith}
+use Rattle.std.proofs.Common.{◌<◌, ◌≤◌, length, sym, ◌∙◌, subst, arith}
 use Rattle.ring_jobs.specs.RingJobs.{coefficients, job_numbers}
 use Rattle.nodes.proofs.Numbered.{depth_is}
 use Rattle.nodes.proofs.Paths.{too_deep, no_seed, by_path}

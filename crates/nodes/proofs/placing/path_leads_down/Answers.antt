@@ -1,4 +1,4 @@
-use Rattle.std.proofs.Common.{◌≡◌, ◌+◌, ◌≤◌, length, get_or, take, drop, sym, refl, ap, ◌∙◌, arith}
+use Rattle.std.proofs.Common.{◌+◌, ◌≤◌, length, get_or, take, drop, sym, ◌∙◌, arith}
 use Rattle.chains.specs.Addresses.{leads_down}
 use Rattle.ring_jobs.specs.RingJobs.{job_numbers}
 use Rattle.nodes.proofs.Paths.{path_more, path_end, leads_on, leads_nowhere}

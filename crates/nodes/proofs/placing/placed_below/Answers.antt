@@ -1,8 +1,8 @@
-use Rattle.std.proofs.Common.{◌≡◌, ℕ, ◌+◌, ◌<◌, ◌≤◌, true, cond, List, [], length, get_or, take, drop, sym, refl, ap, ◌∙◌, subst, ap₂, arith}
+use Rattle.std.proofs.Common.{◌+◌, ◌<◌, ◌≤◌, cond, length, get_or, take, drop, sym, ap, ◌∙◌, ap₂, arith}
 use Rattle.chains.specs.Addresses.{leads_down, node_placement, placement_below}
 use Rattle.edges.specs.Views.{placement_view}
 use Rattle.ring_jobs.specs.RingJobs.{job_numbers}
-use Rattle.nodes.specs.Table.{there, outside, kept_below, kept_way}
+use Rattle.nodes.specs.Table.{there, outside, kept_below}
 use Rattle.nodes.specs.Views.{address_view}
 use Rattle.nodes.proofs.Downward.{fault_entry_of, kept_on, placed_on, leads_on_from, off_below, seed_way, seed_node, seed_leads}
 use Rattle.nodes.proofs.Paths.{path_more, path_end, node_seed}

@@ -1,4 +1,4 @@
-use Rattle.std.proofs.Common.{◌≡◌, Bool, true, false, cond, ◌&&◌, sym, refl, ap, ◌∙◌, ap₂}
+use Rattle.std.proofs.Common.{cond, ◌&&◌, sym, ap, ◌∙◌, ap₂}
 use Rattle.chains.specs.Books.{book_of}
 use Rattle.chains.specs.Addresses.{node_placement}
 use Rattle.edges.specs.Views.{placement_view}

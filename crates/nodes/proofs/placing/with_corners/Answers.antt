@@ -1,4 +1,4 @@
-use Rattle.std.proofs.Common.{◌≡◌, cond, sym, refl, ap, ◌∙◌}
+use Rattle.std.proofs.Common.{cond, sym, ap, ◌∙◌}
 use Rattle.edges.specs.Views.{placement_view}
 use Rattle.ring_jobs.proofs.Booked.{book_is}
 use Rattle.nodes.specs.OnPlane.{kept_corners}

@@ -1,4 +1,4 @@
-use Rattle.std.proofs.Common.{◌≡◌, vec_items, sym, refl, ap, ◌∙◌, subst}
+use Rattle.std.proofs.Common.{vec_items, ◌∙◌}
 use Rattle.jobs.specs.Rows.{placed_of}
 use Rattle.edges.proofs.Gather.{push_more, push_end, all_step, all_end, all_row, off_plane, no_memory}
 use Rattle.ring_jobs.specs.Shapes.{placed_with}

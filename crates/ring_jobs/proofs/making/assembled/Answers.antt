@@ -1,4 +1,4 @@
-use Rattle.std.proofs.Common.{◌≡◌, [], vec_items, sym, subst}
+use Rattle.std.proofs.Common.{[], vec_items, sym, subst}
 use Rattle.jobs.specs.Jobs.{numbers}
 use Rattle.ring_jobs.specs.Shapes.{numbers_with, Branching}
 use Rattle.ring_jobs.specs.Fitted.{fitted}

@@ -1,4 +1,4 @@
-use Rattle.std.proofs.Common.{◌≡◌, ◌≤◌, map, length, sym, refl, ap, ◌∙◌, subst}
+use Rattle.std.proofs.Common.{◌≤◌, map, length, sym, ap, ◌∙◌, subst}
 use Rattle.jobs.specs.Limits.{most_parts}
 use Rattle.jobs.specs.Rows.{part_of}
 use Rattle.rings.specs.Plane.{OnPlane, read_list}

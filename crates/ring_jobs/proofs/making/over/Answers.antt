@@ -1,4 +1,4 @@
-use Rattle.std.proofs.Common.{◌≡◌, ◌≤◌, map, length, vec_items, sym, refl, ap, ◌∙◌, subst, ap₂}
+use Rattle.std.proofs.Common.{◌≤◌, map, length, vec_items, sym, ap, ◌∙◌, subst, ap₂}
 use Rattle.std.specs.List.{AllByRecursion}
 use Rattle.std.proofs.lemmas.List.{length-map}
 use Rattle.std.proofs.ByRecursion.{All-weaker}
@@ -8,7 +8,6 @@ use Rattle.jobs.specs.Fronts.{Head}
 use Rattle.jobs.specs.Rows.{head_of, part_of, placed_of, tile_of}
 use Rattle.edges.specs.declared.fault.ChainFault.TheVariants.{Ring}
 use Rattle.jobs.specs.Fronts.{labelled}
-use Rattle.jobs.specs.Jobs.{numbers}
 use Rattle.ring_jobs.specs.Shapes.{numbers_with}
 use Rattle.ring_jobs.specs.Fitted.{fitted, relisted_label, relisted_placed, relisted_tile, relisted}
 use Rattle.ring_jobs.specs.Small.{SmallTile}

@@ -1,4 +1,4 @@
-use Rattle.std.proofs.Common.{◌≡◌, sym, refl, ap, ◌∙◌, subst}
+use Rattle.std.proofs.Common.{ap, ◌∙◌, subst}
 use Rattle.rings.specs.Plane.{OnPlane, read_list}
 use Rattle.ring_jobs.proofs.Reading.{placed_same, read_back}
 use Rattle.ring_jobs.proofs.making.placed_over.Goals as goal

@@ -1,4 +1,4 @@
-use Rattle.std.proofs.Common.{◌≡◌, ℤ, ◌*ℤ◌, sym, ◌∙◌, subst, arith, w64, SFits}
+use Rattle.std.proofs.Common.{ℤ, ◌*ℤ◌, sym, ◌∙◌, subst, arith, w64, SFits}
 use Rattle.std.proofs.lemmas.Int.{ints, wrapping_mul_is, int_wrap_fits}
 use Rattle.exact.specs.Sizes.{Between}
 use Rattle.exact.proofs.Sizes.{product_between}

@@ -1,4 +1,4 @@
-use Rattle.std.proofs.Common.{◌≡◌, ◌+ℤ◌, ◌*ℤ◌, neg_ℤ, ap, ◌∙◌, ap₂, arith}
+use Rattle.std.proofs.Common.{◌+ℤ◌, ◌*ℤ◌, neg_ℤ, ap, ◌∙◌, ap₂, arith}
 use Rattle.exact.specs.Models.{quad_list}
 use Rattle.exact.specs.Sweeps.{row_total}
 use Rattle.exact.proofs.TenfoldLaws.{sweep_by_crosses, by_crosses}

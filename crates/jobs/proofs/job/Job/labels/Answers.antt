@@ -1,4 +1,4 @@
-use Rattle.std.proofs.Common.{◌≡◌, map, vec_items, sym, ap, ◌∙◌}
+use Rattle.std.proofs.Common.{map, vec_items, sym, ap, ◌∙◌}
 use Rattle.jobs.specs.Rows.{head_of}
 use Rattle.jobs.proofs.Picking.{heads_back}
 use Rattle.jobs.proofs.job.Job.labels.Goals as goal

@@ -1,10 +1,7 @@
-use Rattle.std.proofs.Common.{◌≡◌, [], ◌∷◌, ◌++◌, map, length, vec_items, sym, refl, ap, ◌∙◌, ap₂, arith, rules}
+use Rattle.std.proofs.Common.{[], ◌∷◌, ◌++◌, vec_items, ap}
 use Rattle.std.specs.List.{flat_map}
 use Rattle.lines.specs.Spelling.{word}
-use Rattle.jobs.specs.Jobs.{numbers}
 use Rattle.jobs.specs.RowTexts.{label_text, parts_text, tile_text, placed_text}
-use Rattle.jobs.specs.Spelled.{spelled}
-use Rattle.jobs.proofs.Picking.{each_divided}
 use Rattle.jobs.proofs.Writes.{puts_then, puts_as}
 use Rattle.jobs.proofs.Wholes.{job_text}
 use Rattle.jobs.proofs.job.Job.put.Goals as goal

@@ -1,7 +1,5 @@
-use Rattle.std.proofs.Common.{◌≡◌, ◌<◌, ◌≤◌, map, length, get_or, vec_items, sym, refl, ap, ◌∙◌, arith, rules}
-use Rattle.std.proofs.lemmas.List.{length-map, get_or-map}
-use Rattle.exact.specs.JobNumbers.{TileNumbers}
-use Rattle.jobs.specs.Rows.{head_of, part_of, step_of, placed_of, tile_of}
+use Rattle.std.proofs.Common.{◌<◌, ◌≤◌, map, length, vec_items, refl, ap, ◌∙◌, rules}
+use Rattle.jobs.specs.Rows.{part_of}
 use Rattle.jobs.specs.Jobs.{numbers}
 use Rattle.jobs.proofs.Picking.{no_label_at, label_at, subdivision_at, each_divided}
 use Rattle.jobs.proofs.job.Job.subdivision.Goals as goal

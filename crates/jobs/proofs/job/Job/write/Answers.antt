@@ -1,4 +1,4 @@
-use Rattle.std.proofs.Common.{◌≡◌, ◌++◌, length, take, drop, sym, refl, ap, ◌∙◌, arith}
+use Rattle.std.proofs.Common.{◌++◌, drop, refl, ap, ◌∙◌}
 use Rattle.jobs.specs.Jobs.{numbers}
 use Rattle.jobs.specs.Spelled.{spelled}
 use Rattle.jobs.proofs.Wholes.{job_short}
