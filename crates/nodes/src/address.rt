@@ -6,6 +6,7 @@ ghost use Rattle.jobs.specs.Limits.{most_depth};
 pub const PATH_LENGTH: usize = 12;
 
 // A seed tile's number, and the child numbers from it down to a level. What the path holds beyond the level counts for nothing.
+// `==` compares the whole path all the same: two addresses that differ only there are told apart, which does no harm.
 #[derive(Clone, Copy, PartialEq)]
 pub struct Address {
     pub seed: u16,

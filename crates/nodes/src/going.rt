@@ -1,4 +1,4 @@
-// From an address to others, and whether two are the same.
+// From an address to others.
 ghost use Rattle.std.specs.Prelude.{◌≡◌, MatchOption};
 ghost use Rattle.chains.specs.Addresses.{seed_address, child_address};
 ghost use Rattle.nodes.specs.Views.{address_view};

@@ -95,7 +95,7 @@ pub fn placement<R: Ring>(job: &RingJob<R>, at: &Address) -> Result<Placement<R>
     with_corners(job, placed)
 }
 
-// The table's entry for child k of a node that lies as told.
+// Child k of a placed tile with its own corners: of a node above the depth, the table's entry for its child k.
 pub fn child_placement<R: Ring>(
     job: &RingJob<R>,
     above: &Placement<R>,

@@ -11,8 +11,9 @@ use nodes::fault::PlaceFault;
 use ring_jobs::job::RingJob;
 use rings::ring::Ring;
 
-// A placer has a job, and answers from the job's table: for each address the node's placement, 3 where there is no such node,
-// 8 where the node is off the plane. A question may change what the placer remembers, and never the table.
+// A placer has a job, and if it is sound answers from the job's table: for each address the node's placement, 3 where there is
+// no such node, 8 where the node is off the plane. A question may change what the placer remembers, and never the table; a
+// sound placer stays sound.
 pub trait Placer {
     type R: Ring;
 
@@ -30,6 +31,6 @@ pub trait Placer {
         ensures kept { plan self.new ≡ plan self.old }
         ensures sound { sound self.old → sound self.new };
 
-    // every job has a sound placer, so that to be sound asks nothing that cannot be met
+    // each placer's job has a sound placer, so that to be sound asks nothing that cannot be met
     ghost soundable: { (p : Self) → ∥ ((q : Self) × (sound q × (plan q ≡ plan p))) ∥₁ };
 }

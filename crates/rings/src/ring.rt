@@ -14,7 +14,7 @@ use crate::group::Group;
 // An operation answers the exact result, or 'off the plane' exactly where a coefficient of that result lies outside;
 // what leaves the plane on the way refuses nothing.
 pub trait Ring: Copy + PartialEq {
-    // The ring's n and d. No clause can name a constant of a trait: `order` and `rank` answer them to a proof.
+    // The ring's n and d. Generic code knows nothing of a constant's value: `order` and `rank` tell it to a proof.
     const N: u32;
 
     const D: usize;
