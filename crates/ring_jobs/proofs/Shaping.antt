@@ -10,7 +10,7 @@ use Rattle.exact.specs.Sizes.{Between, Within}
 use Rattle.exact.proofs.Sizes.{abs_between}
 use Rattle.rings.specs.Plane.{plane_bound, fitted_from}
 use Rattle.jobs.specs.Limits.{most_parts}
-use Rattle.jobs.specs.Fronts.{Head}
+use Rattle.jobs.specs.Fronts.{Head, labelled}
 use Rattle.jobs.specs.Rows.{part_of, step_of, placed_of, tile_of}
 use Rattle.job_rows.specs.declared.Part.{Part as PartRow}
 use Rattle.jobs.specs.declared.rows.Tile.{Tile as TileRow}
@@ -21,7 +21,6 @@ use Rattle.edges.specs.declared.rows.Book.{Book}
 use Rattle.edges.specs.declared.fault.ChainFault.{ChainFault}
 use Rattle.edges.specs.declared.fault.ChainFault.TheVariants.{Ring, Memory}
 use Rattle.edges.specs.Answers.{Excused}
-use Rattle.jobs.specs.Fronts.{labelled}
 use Rattle.jobs.specs.Ranges.{Coefficient, LabelFits, TileFits, PlacedFits, InRange, kinds_of}
 use Rattle.ring_jobs.specs.Shapes.{label_with, placed_with, tile_with, numbers_with, Branching}
 use Rattle.ring_jobs.specs.Fitted.{fitted, relisted_label, relisted_placed, relisted_tile, relisted, fitted_job}

@@ -3,8 +3,7 @@ ghost use Rattle.std.specs.Prelude.{◌≡◌, ◌≤◌, map, length, vec_len, 
 ghost use Rattle.std.specs.List.{AllByRecursion};
 ghost use Rattle.jobs.specs.Limits.{most_parts, most_steps, most_children};
 ghost use Rattle.jobs.specs.Rows.{head_of, part_of, placed_of, tile_of};
-ghost use Rattle.edges.specs.Answers.{Worked};
-ghost use Rattle.edges.specs.Answers.{Made};
+ghost use Rattle.edges.specs.Answers.{Worked, Made};
 ghost use Rattle.edges.specs.declared.fault.ChainFault.TheVariants.{Memory};
 ghost use Rattle.jobs.specs.Fronts.{labelled};
 ghost use Rattle.jobs.specs.Jobs.{numbers};

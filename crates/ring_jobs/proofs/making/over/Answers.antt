@@ -4,10 +4,9 @@ use Rattle.std.proofs.lemmas.List.{length-map}
 use Rattle.std.proofs.ByRecursion.{All-weaker}
 use Rattle.rings.specs.Plane.{read_list}
 use Rattle.jobs.specs.Limits.{most_parts}
-use Rattle.jobs.specs.Fronts.{Head}
+use Rattle.jobs.specs.Fronts.{Head, labelled}
 use Rattle.jobs.specs.Rows.{head_of, part_of, placed_of, tile_of}
 use Rattle.edges.specs.declared.fault.ChainFault.TheVariants.{Ring}
-use Rattle.jobs.specs.Fronts.{labelled}
 use Rattle.ring_jobs.specs.Shapes.{numbers_with}
 use Rattle.ring_jobs.specs.Fitted.{fitted, relisted_label, relisted_placed, relisted_tile, relisted}
 use Rattle.ring_jobs.specs.Small.{SmallTile}
