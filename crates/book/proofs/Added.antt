@@ -1,29 +1,14 @@
 -- Coefficients add each by itself, in every ring: so sizes of sums, and totals modulo 2^64.
-use Rattle.std.proofs.Common.{◌≡◌, ℕ, zero, suc, ◌+◌, ◌*◌, ◌<◌, List, [], ◌∷◌, length, get_or, ℤ, pos, negsuc, ◌+ℤ◌, sym, refl, ap, ◌∙◌, subst, ap₂, arith, w64, SFits}
+use Rattle.std.proofs.Common.{◌≡◌, ℕ, zero, suc, ◌+◌, ◌*◌, ◌<◌, List, [], ◌∷◌, length, get_or, ℤ, pos, ◌+ℤ◌, sym, refl, ap, ◌∙◌, subst, ap₂, arith, w64, SFits}
 use Rattle.std.proofs.lemmas.Int.{ints, int_wrap_fits}
-use Rattle.exact.specs.Cyclotomic.{Cyclotomic, CyclotomicLaws, copies, whole_times, combination}
-use Rattle.exact.specs.Groups.{AbelianLaws, repeated, times}
+use Rattle.exact.specs.Cyclotomic.{Cyclotomic, CyclotomicLaws}
 use Rattle.exact.specs.Residues.{Total, totals}
 use Rattle.exact.specs.Sizes.{Between, Within}
 use Rattle.exact.specs.Sweeps.{row_total, total_of, coefficients_from, read_total}
-use Rattle.exact.proofs.Powers.{ring_of}
 use Rattle.exact.proofs.Sizes.{sum_between}
-use Rattle.exact.proofs.Solver as solver
 use Rattle.exact.proofs.Totals.{Sums, row_sum, residue_add}
 use Rattle.rings.specs.Plane.{sweep_bound}
-use Rattle.chains.specs.Edges.{sums}
-use Rattle.chains.proofs.Multiples as multiples
-
--- two lists added place by place
-abbrev pub added : List ℤ → List ℤ → List ℤ
-added [] m = []
-added (a ∷ l) [] = []
-added (a ∷ l) (b ∷ m) = (a +ℤ b) ∷ added l m
-
-added_length : (l m : List ℤ) → length l ≡ length m → length (added l m) ≡ length l
-added_length [] m h = refl
-added_length (a ∷ l) [] h = absurd (omega arith)
-added_length (a ∷ l) (b ∷ m) h = ap suc (added_length l m (omega arith))
+use Rattle.rings.proofs.Added.{added, list_add}
 
 added_within : (s t : ℕ) (l m : List ℤ) → Within s l → Within t m → Within (s + t) (added l m)
 added_within s t [] m p q = tt
@@ -37,49 +22,11 @@ added_sums (a ∷ l) [] h = absurd (omega arith)
 added_sums (a ∷ l) (b ∷ m) h = (residue_add a b, added_sums l m (omega arith))
 
 module _ (E : Cyclotomic) (L : CyclotomicLaws E) where
-  group_laws : AbelianLaws (sums E)
-  group_laws = record { sum_comm = L.ring.add_comm; sum_assoc = L.ring.add_assoc; sum_zero = L.ring.add-zero; sum_opposite = L.ring.add_neg }
-
-  copies_are : (k : ℕ) (x : E.Elem) → copies E k x ≡ repeated (sums E) k x
-  unfolding repeated
-  copies_are zero x = refl
-  copies_are (suc k) x = ap (E.add x) (copies_are k x)
-
-  whole_times_are : (c : ℤ) (x : E.Elem) → whole_times E c x ≡ times (sums E) c x
-  unfolding times
-  whole_times_are (pos k) x = copies_are k x
-  whole_times_are (negsuc k) x = ap E.neg (copies_are (suc k) x)
-
-  whole_times_add : (a b : ℤ) (x : E.Elem) → whole_times E (a +ℤ b) x ≡ E.add (whole_times E a x) (whole_times E b x)
-  whole_times_add a b x = whole_times_are (a +ℤ b) x ∙ multiples.times_add (sums E) group_laws a b x ∙ sym (ap₂ E.add (whole_times_are a x) (whole_times_are b x))
-
-  regroup : (p q z c d : E.Elem) → E.add (E.add p q) (E.mul z (E.add c d)) ≡ E.add (E.add p (E.mul z c)) (E.add q (E.mul z d))
-  regroup p q z c d =
-      let v = solver.v in
-      solver.solve (ring_of E L) (p ∷ q ∷ z ∷ c ∷ d ∷ [])
-      (solver.plus (solver.plus (v 0) (v 1)) (solver.times (v 2) (solver.plus (v 3) (v 4)))) (solver.plus (solver.plus (v 0) (solver.times (v 2) (v 3))) (solver.plus (v 1) (solver.times (v 2) (v 4)))) tt
-
-  combination_add : (l m : List ℤ) → length l ≡ length m → combination E (added l m) ≡ E.add (combination E l) (combination E m)
-  combination_add [] [] h = sym (L.ring.add-zero E.zero)
-  combination_add [] (b ∷ m) h = absurd (omega arith)
-  combination_add (a ∷ l) [] h = absurd (omega arith)
-  combination_add (a ∷ l) (b ∷ m) h =
-      ap₂ (λ u w. E.add u (E.mul E.zeta w)) (whole_times_add a b E.one) (combination_add l m (omega arith)) ∙ regroup _ _ _ _ _
-
-  -- the coefficients of a sum
-  pub list_add : (x y : E.Elem) → E.list (E.add x y) ≡ added (E.list x) (E.list y)
-  list_add x y =
-      let l = E.list x in let m = E.list y in
-      let same : length l ≡ length m = L.list_length x ∙ sym (L.list_length y) in
-      let n : length (added l m) ≡ E.d = added_length l m same ∙ L.list_length x in
-      let k = L.list_of (added l m) n in
-      ap E.list (ap₂ E.add (sym (L.stands_for x)) (sym (L.stands_for y)) ∙ sym (combination_add l m same) ∙ ap (combination E) (sym k) ∙ L.stands_for (E.of (added l m))) ∙ k
-
   pub sum_within : (s t : ℕ) (x y : E.Elem) → Within s (E.list x) → Within t (E.list y) → Within (s + t) (E.list (E.add x y))
-  sum_within s t x y p q = subst (Within (s + t)) (sym (list_add x y)) (added_within s t (E.list x) (E.list y) p q)
+  sum_within s t x y p q = subst (Within (s + t)) (sym (list_add E L x y)) (added_within s t (E.list x) (E.list y) p q)
 
   pub total_add : (x y : E.Elem) → total_of E (E.add x y) ≡ totals.sum (total_of E x) (total_of E y)
-  total_add x y = ap row_total (list_add x y) ∙ row_sum (E.list x) (E.list y) (added (E.list x) (E.list y)) (added_sums (E.list x) (E.list y) (L.list_length x ∙ sym (L.list_length y)))
+  total_add x y = ap row_total (list_add E L x y) ∙ row_sum (E.list x) (E.list y) (added (E.list x) (E.list y)) (added_sums (E.list x) (E.list y) (L.list_length x ∙ sym (L.list_length y)))
 
   -- nothing added up
   zero_list : (z : List ℤ) → added z z ≡ z → Within 0 z
@@ -104,7 +51,7 @@ module _ (E : Cyclotomic) (L : CyclotomicLaws E) where
       zero_number a h = omega (arith, ints)
 
   pub zero_within : Within 0 (E.list E.zero)
-  zero_within = zero_list (E.list E.zero) (sym (list_add E.zero E.zero) ∙ ap E.list (L.ring.add-zero E.zero))
+  zero_within = zero_list (E.list E.zero) (sym (list_add E L E.zero E.zero) ∙ ap E.list (L.ring.add-zero E.zero))
 
 -- ---- a total that does not wrap is the number itself
 fits : (a : ℤ) → Between (12 * sweep_bound) a → SFits w64 a

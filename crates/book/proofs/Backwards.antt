@@ -1,87 +1,60 @@
--- A list of parts read backwards, place by place.
-use Rattle.std.proofs.Common.{◌≡◌, ℕ, suc, ◌-◌, ◌<◌, ◌≤◌, Bool, true, false, not, List, [], ◌∷◌, map, length, get_or, Decides, sym, refl, ap, ◌∙◌, subst, inl, inr, true≢false, arith}
-use mathlib.Core.Bool.{beq, false≢true}
-use Rattle.std.proofs.lemmas.Bool.{cases_lt}
-use Rattle.std.proofs.lemmas.List.{length-map, length-append, get_or_append_left, get_or-append_right, get_or-map, same_lists}
+-- A list of parts read backwards, and what makes two parts mirror each other.
+use Rattle.std.proofs.Common.{◌≡◌, ℕ, Bool, true, false, not, cond, ◌&&◌, ◌==◌, List, [], ◌∷◌, ◌++◌, map, Option, Decides, sym, refl, ap, ◌∙◌, arith}
+use mathlib.Core.Bool.{beq}
+use mathlib.Core.List.{reverse, map-append}
+use Rattle.std.proofs.lemmas.List.{reverse-append}
+use Rattle.std.specs.Iterator.{AlwaysYields}
+use Rattle.std.proofs.lemmas.Iterator.{YieldsList}
 use Rattle.exact.specs.Cyclotomic.{Cyclotomic}
 use Rattle.exact.specs.JobNumbers as numbers
 use Rattle.chains.specs.Books as books
 use Rattle.chains.specs.Books.{label_at}
 use Rattle.chains.specs.Accepted.{backwards, turned_part}
 use Rattle.job_rows.specs.declared.Part.{Part}
-use Rattle.edges.specs.Views.{part_view}
+use Rattle.job_rows.specs.Shapes.{part_of}
+
+-- what the items of an iterator stand for
+module _ {T A B C : Type 0} (steps : T → Option A → T → Type 0) (v : A → B) (h : B → C) where
+  seen_at : (ys : List B) (s : T) → AlwaysYields steps v s ys → AlwaysYields steps (λ x. h (v x)) s (map h ys)
+  seen_at [] s e = e
+  seen_at (y ∷ ys) s e = (e.0, λ x j k. (ap h (e.1 x j k).0, seen_at ys j (e.1 x j k).1))
+
+  pub seen : {s : T} (ys : List B) → YieldsList steps v s ys → YieldsList steps (λ x. h (v x)) s (map h ys)
+  seen {s} ys e = record { runs = seen_at ys s e.runs }
 
 module _ (E : Cyclotomic) (B : books.Book E) where
-  pub back_length : (ps : List numbers.Part) → length (backwards E B ps) ≡ length ps
-  unfolding backwards
-  back_length [] = refl
-  back_length (p ∷ ps) = let k = back_length ps in simp length-append (omega arith)
+  abbrev pub turned_row : Part → numbers.Part
+  turned_row x = turned_part E B (part_of x)
 
-  pub back_at : (ps : List numbers.Part) (k : ℕ) (d : numbers.Part) → k < length ps → get_or (backwards E B ps) k d ≡ turned_part E B (get_or ps (length ps - 1 - k) d)
+  backwards_is : (row : List Part) → map turned_row (reverse row) ≡ backwards E B (map part_of row)
   unfolding backwards
-  back_at [] k d h = absurd (omega arith)
-  back_at (p ∷ ps) k d h = elim (cases_lt k (length ps)) [
-    | inl l ↦ get_or_append_left (backwards E B ps) (turned_part E B p ∷ []) d k (subst (◌<◌ k) (sym (back_length ps)) l) ∙ back_at ps k d l
-        ∙ ap (turned_part E B) (ap (λ n. get_or (p ∷ ps) n d) (ahead (length ps) k l))
-    | inr l ↦ get_or-append_right (backwards E B ps) (turned_part E B p ∷ []) (length ps) k d (back_length ps) l
-        ∙ ap (λ n. get_or (turned_part E B p ∷ []) n d) (none (length ps) k l h) ∙ ap (turned_part E B) (ap (λ n. get_or (p ∷ ps) n d) (first (length ps) k l h))
-  ]
+  backwards_is [] = refl
+  backwards_is (x ∷ xs) = ap (map turned_row) (reverse-append (x ∷ []) xs) ∙ map-append turned_row (reverse xs) (x ∷ []) ∙ ap (λ l. l ++ turned_row x ∷ []) (backwards_is xs)
+
+  -- a test of the row's parts against those of the row reversed
+  pub tells_backwards : (row : List Part) (t : Bool) → Decides t (map part_of row ≡ map turned_row (reverse row)) → Decides t (backwards E B (map part_of row) ≡ map part_of row)
+  tells_backwards row t d = (λ h. sym (d.0 h ∙ backwards_is row), λ e. d.1 (sym (backwards_is row ∙ e)))
+
+  turned_is : (b : numbers.Part) (arrowed : Bool) → arrowed ≡ (label_at B b.label).arrowed → record { label = b.label; forward = not (beq b.forward arrowed) } ≡ turned_part E B b
+  unfolding turned_part
+  turned_is b arrowed k = ap (λ f. record { label = b.label; forward = f }) (turns b.forward arrowed ∙ ap (λ a. cond a (not b.forward) b.forward) k)
     where
-      ahead : (n k : ℕ) → k < n → suc (n - 1 - k) ≡ suc n - 1 - k
-      ahead n k h = omega arith
+      turns : (f a : Bool) → not (beq f a) ≡ cond a (not f) f
+      turns true true = refl
+      turns true false = refl
+      turns false true = refl
+      turns false false = refl
 
-      none : (n k : ℕ) → n ≤ k → k < suc n → k - n ≡ 0
-      none n k h l = omega arith
+  -- `==` of two rows decides whether the one stands for the other's turned part
+  pub mirrored : (a b : Part) (arrowed t : Bool) → arrowed ≡ (label_at B b.label).arrowed → t ≡ (a.label == b.label && beq a.forward (not (beq b.forward arrowed))) → Decides t (part_of a ≡ turned_part E B (part_of b))
+  mirrored a b arrowed t k e =
+      let m = turned_is (part_of b) arrowed k in (
+        λ h. same a.label b.label a.forward _ (sym e ∙ h) ∙ m,
+        λ q. e ∙ same_back a.label b.label a.forward _ (q ∙ sym m),
+      )
+    where
+      same : (l l' : ℕ) (f f' : Bool) → (l == l' && beq f f') ≡ true → ◌≡◌ {A = numbers.Part} (record { label = l; forward = f }) (record { label = l'; forward = f' })
+      same l l' f f' h = grind arith
 
-      first : (n k : ℕ) → n ≤ k → k < suc n → 0 ≡ suc n - 1 - k
-      first n k h l = omega arith
-
-  -- what stands at a place of a list of rows
-  module _ (row : List Part) where
-    unfoldable pub Mirrors_at : ℕ → Type 0
-    Mirrors_at k = (d : numbers.Part) → get_or (backwards E B (map part_view row)) k d ≡ get_or (map part_view row) k d
-
-    pub mirrors_at : (k : ℕ) (e : Part) → k < length row → part_view (get_or row k e) ≡ turned_part E B (part_view (get_or row (length row - 1 - k) e)) → Mirrors_at k
-    unfolding Mirrors_at
-    mirrors_at k e h m d =
-        back_at (map part_view row) k d (simp length-map h)
-        ∙ ap (turned_part E B) (ap (λ n. get_or (map part_view row) (n - 1 - k) d) (length-map row part_view) ∙ get_or-map part_view row (length row - 1 - k) e d (omega arith))
-        ∙ sym m ∙ sym (get_or-map part_view row k e d h)
-
-    pub mirrors_of : (k : ℕ) (e : Part) → k < length row → Mirrors_at k → part_view (get_or row k e) ≡ turned_part E B (part_view (get_or row (length row - 1 - k) e))
-    unfolding Mirrors_at
-    mirrors_of k e h m =
-        sym (get_or-map part_view row k e (part_view e) h) ∙ sym (m (part_view e)) ∙ back_at (map part_view row) k (part_view e) (simp length-map h)
-        ∙ ap (turned_part E B) (ap (λ n. get_or (map part_view row) (n - 1 - k) (part_view e)) (length-map row part_view) ∙ get_or-map part_view row (length row - 1 - k) e (part_view e) (omega arith))
-
-    pub all_mirror : ((k : ℕ) → k < length row → Mirrors_at k) → backwards E B (map part_view row) ≡ map part_view row
-    unfolding Mirrors_at
-    all_mirror h = same_lists _ _ (back_length (map part_view row)) (λ k d l. h k (subst (◌<◌ k) (back_length (map part_view row) ∙ length-map row part_view) l) d)
-
-    pub mirror_each : backwards E B (map part_view row) ≡ map part_view row → (k : ℕ) → Mirrors_at k
-    unfolding Mirrors_at
-    mirror_each e k d = ap (λ l. get_or l k d) e
-
-  flip : (x y : Bool) → Decides (not (beq x y)) (x ≡ not y)
-  flip true true = (λ e. absurd (false≢true e), λ e. absurd (true≢false e))
-  flip true false = (λ _. refl, λ _. refl)
-  flip false true = (λ _. refl, λ _. refl)
-  flip false false = (λ e. absurd (false≢true e), λ e. absurd (false≢true e))
-
-  keep : (x y : Bool) → Decides (beq x y) (x ≡ y)
-  keep true true = (λ _. refl, λ _. refl)
-  keep true false = (λ e. absurd (false≢true e), λ e. absurd (true≢false e))
-  keep false true = (λ e. absurd (false≢true e), λ e. absurd (false≢true e))
-  keep false false = (λ _. refl, λ _. refl)
-
-  piece_same : (l l' : ℕ) (f f' : Bool) → l ≡ l' → f ≡ f' → ◌≡◌ {A = numbers.Part} (record { label = l; forward = f }) (record { label = l'; forward = f' })
-  piece_same l l' f f' e h = cc
-
-  module _ (a b : numbers.Part) (h : a.label ≡ b.label) where
-    pub turns : true ≡ (label_at B b.label).arrowed → Decides (not (beq a.forward b.forward)) (a ≡ turned_part E B b)
-    unfolding turned_part
-    turns k = rw (sym k) (λ e. piece_same _ _ _ _ h ((flip a.forward b.forward).0 e), λ e. (flip a.forward b.forward).1 (ap (λ p. p.forward) e))
-
-    pub stays : false ≡ (label_at B b.label).arrowed → Decides (beq a.forward b.forward) (a ≡ turned_part E B b)
-    unfolding turned_part
-    stays k = rw (sym k) (λ e. piece_same _ _ _ _ h ((keep a.forward b.forward).0 e), λ e. (keep a.forward b.forward).1 (ap (λ p. p.forward) e))
+      same_back : (l l' : ℕ) (f f' : Bool) → ◌≡◌ {A = numbers.Part} (record { label = l; forward = f }) (record { label = l'; forward = f' }) → (l == l' && beq f f') ≡ true
+      same_back l l' f f' h = grind arith

@@ -10,10 +10,11 @@ use Rattle.rings.specs.Plane.{sweep_bound, height_bound}
 use Rattle.chains.specs.Books.{tile_at}
 use Rattle.chains.specs.Edges.{corners, walk_end}
 use Rattle.chains.specs.Accepted.{total_sweep, OutlineCloses}
-use Rattle.edges.specs.declared.rows.Book.{Book}
+use Rattle.job_rows.specs.declared.Book.{Book}
 use Rattle.job_rows.specs.declared.Step.{Step}
-use Rattle.edges.specs.Views.{book_view, step_view}
-use Rattle.edges.specs.Limits.{most_steps}
+use Rattle.edges.specs.Views.{book_view}
+use Rattle.job_rows.specs.Shapes.{step_of}
+use Rattle.job_rows.specs.Limits.{most_steps}
 use Rattle.edges.specs.Working.{KeptWalk, KeptOutline}
 use Rattle.book.specs.Points.{KeptRound, Tested}
 use Rattle.book.proofs.Added.{read_total_of}
@@ -25,28 +26,28 @@ module _ {S : Type 0} (E : Cyclotomic) (v : S → E.Elem) (b : Book S) (t : ℕ)
   pub kept_then : (z : E.Elem) → z ≡ total_sweep E (book_view E v b) t → KeptRound E (book_view E v b) t → Within height_bound (E.list z)
   kept_then z e k = subst (λ y. Within height_bound (E.list y)) (sym e) k.area
 
-  module _ (steps : List Step) (s : map step_view steps ≡ (tile_at (book_view E v b) t).outline) where
-    pub walked : KeptRound E (book_view E v b) t → KeptWalk E (book_view E v b) (map step_view steps) E.zero
+  module _ (steps : List Step) (s : map step_of steps ≡ (tile_at (book_view E v b) t).outline) where
+    pub walked : KeptRound E (book_view E v b) t → KeptWalk E (book_view E v b) (map step_of steps) E.zero
     unfolding KeptOutline
     walked k = subst (λ l. KeptWalk E (book_view E v b) l E.zero) (sym s) k.corners
 
-    pub opens_then : OutlineCloses E (book_view E v b) t → walk_end E (book_view E v b) (map step_view steps) E.zero ≡ E.zero
+    pub opens_then : OutlineCloses E (book_view E v b) t → walk_end E (book_view E v b) (map step_of steps) E.zero ≡ E.zero
     opens_then h = ap (λ l. walk_end E (book_view E v b) l E.zero) s ∙ h.ends_at_zero
 
     few : length steps ≤ most_steps
-    few = subst (λ n. n ≤ most_steps) (ap length (sym s) ∙ length-map steps step_view) (few_steps E v b t)
+    few = subst (λ n. n ≤ most_steps) (ap length (sym s) ∙ length-map steps step_of) (few_steps E v b t)
 
     wide : (n : ℕ) → n ≤ 12 → n * sweep_bound ≤ 12 * sweep_bound
     wide n h = omega arith
 
-    pub area_is : (L : CyclotomicLaws E) (u : Total) → u ≡ total_of E (sweep_through E E.zero (corners E (book_view E v b) (map step_view steps) E.zero)) →
-        Within (length steps * sweep_bound) (E.list (sweep_through E E.zero (corners E (book_view E v b) (map step_view steps) E.zero))) → read_total E u ≡ total_sweep E (book_view E v b) t
+    pub area_is : (L : CyclotomicLaws E) (u : Total) → u ≡ total_of E (sweep_through E E.zero (corners E (book_view E v b) (map step_of steps) E.zero)) →
+        Within (length steps * sweep_bound) (E.list (sweep_through E E.zero (corners E (book_view E v b) (map step_of steps) E.zero))) → read_total E u ≡ total_sweep E (book_view E v b) t
     unfolding total_sweep
     area_is L u e w =
         ap (read_total E) e ∙ read_total_of E L _ (within_wider (length steps * sweep_bound) (12 * sweep_bound) _ (wide (length steps) few) w)
         ∙ ap (λ l. sweep_through E E.zero (corners E (book_view E v b) l E.zero)) s
 
-    pub closes_then : (z : E.Elem) → z ≡ total_sweep E (book_view E v b) t → walk_end E (book_view E v b) (map step_view steps) E.zero ≡ E.zero → KeptWalk E (book_view E v b) (map step_view steps) E.zero →
+    pub closes_then : (z : E.Elem) → z ≡ total_sweep E (book_view E v b) t → walk_end E (book_view E v b) (map step_of steps) E.zero ≡ E.zero → KeptWalk E (book_view E v b) (map step_of steps) E.zero →
         Within height_bound (E.list z) → (w : Bool) → Decides w (E.height z ≡ pos 1) → Tested (Ok w) (OutlineCloses E (book_view E v b) t) (KeptRound E (book_view E v b) t)
     unfolding KeptOutline
     closes_then z e c k a w d =

@@ -1,8 +1,7 @@
 -- Points passed one after another, and the first that is not.
-use Rattle.std.proofs.Common.{◌≡◌, ℕ, ◌+◌, ◌<◌, List, [], ◌∷◌, ◌++◌, map, length, drop, IsErrAnd, Ok, Err, Result, sym, refl, ap, ◌∙◌, subst, append_assoc, arith, MatchResult}
+use Rattle.std.proofs.Common.{◌≡◌, ℕ, ◌<◌, List, [], ◌∷◌, ◌++◌, map, length, IsErrAnd, Ok, Err, Result, sym, refl, ap, ◌∙◌, subst, append_assoc, arith, MatchResult}
 use Rattle.std.specs.List.{range_with_len, AllByRecursion}
-use Rattle.std.proofs.lemmas.List.{take-append-drop, drop_more}
-use Rattle.std.proofs.lemmas.List.FromFn.{length-map-range_with_len, get_or-map-range_with_len, take-map-range_with_len}
+use Rattle.std.proofs.lemmas.List.FromFn.{length-map-range_with_len, get_or-map-range_with_len}
 use Rattle.std.proofs.ByRecursion.{All-get_or, All-from_get_or}
 use Rattle.exact.specs.Cyclotomic.{Cyclotomic}
 use Rattle.chains.specs.Books.{Book}
@@ -27,28 +26,14 @@ module _ {X : Type 0} (P : X → Type 0) (f : ℕ → X) where
   pub each_below : (n k : ℕ) → k < n → AllByRecursion P (map f (range_with_len 0 n)) → P (f k)
   each_below n k h a = subst P (get_or-map-range_with_len f 0 n k k (f 0) h (omega arith)) (All-get_or P (map f (range_with_len 0 n)) k (f 0) (subst (λ m. k < m) (sym (length-map-range_with_len f 0 n)) h) a)
 
-  -- number k of them, and what stands around it
-  pub split_at : (n k : ℕ) → k < n → (after : List X) × (map f (range_with_len 0 n) ≡ map f (range_with_len 0 k) ++ f k ∷ after)
-  split_at n k h =
-      let l = map f (range_with_len 0 n) in
-      let m = subst (λ m. k < m) (sym (length-map-range_with_len f 0 n)) h in (
-        drop (k + 1) l,
-        sym (take-append-drop k l) ∙ ap (λ t. t ++ drop k l) (take-map-range_with_len f 0 n k (omega arith))
-            ∙ ap (λ t. map f (range_with_len 0 k) ++ t) (drop_more l k (f 0) m ∙ ap (λ x. x ∷ drop (k + 1) l) (get_or-map-range_with_len f 0 n k k (f 0) h (omega arith))),
-      )
-
 -- what holds of all holds of one in the middle
 middle : {X : Type 0} (P : X → Type 0) (xs before : List X) (x : X) (after : List X) → xs ≡ before ++ x ∷ after → AllByRecursion P xs → P x
 middle P xs before x after e a = (all_back P before (x ∷ after) (subst (AllByRecursion P) e a)).0
 
 module _ (E : Cyclotomic) (B : Book E) {S : Type 0} (v : S → E.Elem) where
-  pub at_number : (p : ℕ → Point) (n m k : ℕ) (f : BookFault S) → n ≡ m → k < n → ((i : ℕ) → i < k → Passed E B (p i)) → Refuses E B v (p k) f → FirstFault E B v (map p (range_with_len 0 m)) f
-  at_number p n m k f e h a r =
-      let s = split_at (Passed E B) p m k (subst (λ n. k < n) e h) in
-      record { before = map p (range_with_len 0 k); here = p k; after = s.0; found = s.1; earlier = all_below (Passed E B) p k a; refuses = r }
-
-  pub at_factor : (f : BookFault S) → Refuses E B v the_factor f → FirstFault E B v (the_factor ∷ []) f
-  at_factor f r = record { before = []; here = the_factor; after = []; found = refl; earlier = tt; refuses = r }
+  -- where there is but one point
+  pub alone : (p : Point) (f : BookFault S) → Refuses E B v p f → FirstFault E B v (p ∷ []) f
+  alone p f r = record { before = []; here = p; after = []; found = refl; earlier = tt; refuses = r }
 
   -- after points that are passed, and before others
   pub later : (xs ys : List Point) (f : BookFault S) → AllByRecursion (Passed E B) xs → FirstFault E B v ys f → FirstFault E B v (xs ++ ys) f

@@ -10,3 +10,4 @@ pub mod Added
 pub mod Rounds
 pub mod Closing
 pub mod Judging
+pub mod Each

@@ -12,11 +12,11 @@ use Rattle.chains.specs.Edges as chains
 use Rattle.chains.specs.Edges.{walk}
 use Rattle.chains.specs.Inflation.{stepped, subdivided, inflate}
 use Rattle.chains.specs.Placements.{placed, outline, placed_outline, outlines}
-use Rattle.edges.specs.declared.rows.Label.{Label}
-use Rattle.edges.specs.declared.rows.Tile.{Tile}
-use Rattle.edges.specs.declared.rows.Book.{Book}
+use Rattle.job_rows.specs.declared.Label.{Label}
+use Rattle.job_rows.specs.declared.Tile.{Tile}
+use Rattle.job_rows.specs.declared.Book.{Book}
 use Rattle.edges.specs.declared.rows.Counted.{Counted}
-use Rattle.edges.specs.Limits.{most_parts, most_steps, most_children}
+use Rattle.job_rows.specs.Limits.{most_parts, most_steps, most_children}
 use Rattle.edges.specs.Views.{book_view, label_view, tile_view, counted_view, chain_view}
 use Rattle.edges.proofs.Numbered.{no_label, no_tile}
 

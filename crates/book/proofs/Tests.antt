@@ -1,5 +1,5 @@
 -- Answers of tests, and the exits of a `?` on the way.
-use Rattle.std.proofs.Common.{◌≡◌, Bool, true, false, eqb, ℤ, pos, IsErrAnd, Ok, Err, Decides, Result, sym, refl, ap, ◌∙◌, true≢false, w8, SFits, to_z, of_z}
+use Rattle.std.proofs.Common.{◌≡◌, Bool, true, false, not, eqb, ℤ, pos, IsErrAnd, Ok, Err, Decides, Result, sym, refl, ap, ◌∙◌, true≢false, w8, SFits, to_z, of_z}
 use mathlib.Core.Bool.{false≢true}
 use Rattle.std.proofs.lemmas.Int.{to_z-of_z}
 use Rattle.std.proofs.lemmas.Bool.{eqb-true, eq-eqb}
@@ -40,14 +40,19 @@ module _ (E : Cyclotomic) (L : CyclotomicLaws E) where
   pub first_power : (z : E.Elem) → E.mul (power E 1) z ≡ E.mul E.zeta z
   first_power z = ap (λ y. E.mul y z) (L.ring.mul_one E.zeta)
 
+-- what `!=` says of `==`
+pub differ : (b : Bool) → true ≡ not b → b ≡ false
+differ true e = absurd (true≢false e)
+differ false e = refl
+
+pub agree : (b : Bool) → false ≡ not b → b ≡ true
+agree true e = refl
+agree false e = absurd (false≢true e)
+
 pub one_decided : (h x : ℤ) → SFits w8 h → h ≡ x → Decides (eqb (of_z w8 h) 1) (x ≡ pos 1)
 one_decided h x f e = (λ t. sym e ∙ sym (to_z-of_z w8 h f) ∙ ap (to_z w8) (eqb-true _ _ t), λ t. eq-eqb _ _ (ap (of_z w8) (e ∙ t)))
 
 -- what a test's answer says
-pub yes : {H K : Type 0} (b : Bool) → b ≡ true → Tested (Ok b) H K → K × H
-yes true e t = (t.is.1, t.is.0)
-yes false e t = absurd (false≢true e)
-
 pub no : {H K : Type 0} (b : Bool) → b ≡ false → Tested (Ok b) H K → H → ⊥
 no true e t = absurd (true≢false e)
 no false e t = t.is

@@ -16,28 +16,12 @@ use crate::fault::Difference;
 use crate::nets::first_difference;
 use edges::fault::ChainFault;
 use edges::inflating::inflate_chain;
+use edges::lookups::children_of;
 use edges::placing::{canonical_chain, outlines_at};
 use edges::rows::{Book, Counted};
 use edges::walks::outline_of;
 use rings::ring::Ring;
 use std::alloc::Global;
-
-// The outlines of tile t's children; beyond the last tile there are none.
-fn children_outlines<R: Ring>(
-    heap: Global,
-    book: &Book<R>,
-    t: usize,
-) -> Result<Vec<Counted<R>>, ChainFault>
-    ensures { Made result
-        (λ v. chain_view R.exact R.value v.items ≡ outlines R.exact (book_view R.exact R.value book.now) (tile_at (book_view R.exact R.value book.now) t).children)
-        (AllByRecursion (KeptPlacedOutline R.exact (book_view R.exact R.value book.now)) (tile_at (book_view R.exact R.value book.now) t).children) }
-{
-    if t < book.tiles.len() {
-        outlines_at(heap, book, book.tiles[t].children.as_slice())
-    } else {
-        Ok(Vec::new(heap))
-    }
-}
 
 // Tile t's children, every edge in canonical form.
 fn children_forms<R: Ring>(
@@ -45,12 +29,12 @@ fn children_forms<R: Ring>(
     book: &Book<R>,
     t: usize,
 ) -> Result<Vec<Counted<R>>, ChainFault>
-    ensures { Made result
-        (λ v. chain_view R.exact R.value v.items ≡ map (canonical R.exact (book_view R.exact R.value book.now)) (outlines R.exact (book_view R.exact R.value book.now) (tile_at (book_view R.exact R.value book.now) t).children))
-        (AllByRecursion (KeptPlacedOutline R.exact (book_view R.exact R.value book.now)) (tile_at (book_view R.exact R.value book.now) t).children
-        × KeptForms R.exact (book_view R.exact R.value book.now) (outlines R.exact (book_view R.exact R.value book.now) (tile_at (book_view R.exact R.value book.now) t).children)) }
+    ensures { let B = book_view R.exact R.value book.now in Made result
+        (λ v. chain_view R.exact R.value v.items ≡ map (canonical R.exact B) (outlines R.exact B (tile_at B t).children))
+        (AllByRecursion (KeptPlacedOutline R.exact B) (tile_at B t).children
+        × KeptForms R.exact B (outlines R.exact B (tile_at B t).children)) }
 {
-    let chain = children_outlines(heap, book, t)?;
+    let chain = outlines_at(heap, book, children_of(book, t))?;
     canonical_chain(heap, book, chain.as_slice())
 }
 
@@ -60,11 +44,11 @@ fn inflated_forms<R: Ring>(
     book: &Book<R>,
     t: usize,
 ) -> Result<Vec<Counted<R>>, ChainFault>
-    ensures { Made result
-        (λ v. chain_view R.exact R.value v.items ≡ map (canonical R.exact (book_view R.exact R.value book.now)) (inflate R.exact (book_view R.exact R.value book.now) (outline R.exact (book_view R.exact R.value book.now) t)))
-        (KeptOutline R.exact (book_view R.exact R.value book.now) t
-        × KeptInflated R.exact (book_view R.exact R.value book.now) (outline R.exact (book_view R.exact R.value book.now) t)
-        × KeptForms R.exact (book_view R.exact R.value book.now) (inflate R.exact (book_view R.exact R.value book.now) (outline R.exact (book_view R.exact R.value book.now) t))) }
+    ensures { let B = book_view R.exact R.value book.now in Made result
+        (λ v. chain_view R.exact R.value v.items ≡ map (canonical R.exact B) (inflate R.exact B (outline R.exact B t)))
+        (KeptOutline R.exact B t
+        × KeptInflated R.exact B (outline R.exact B t)
+        × KeptForms R.exact B (inflate R.exact B (outline R.exact B t))) }
 {
     let outline = outline_of(heap, book, t)?;
     let inflated = inflate_chain(heap, book, outline.as_slice())?;
@@ -77,9 +61,9 @@ pub fn tile_difference<R: Ring>(
     book: &Book<R>,
     t: usize,
 ) -> Result<Option<Difference<R>>, ChainFault>
-    ensures { Made result
-        (λ o. MatchOption o (ChildrenBalance R.exact (book_view R.exact R.value book.now) t) (λ d. UnbalancedAt R.exact (book_view R.exact R.value book.now) t (edge_view R.exact R.value d.edge) d.amount))
-        (KeptBalance R.exact (book_view R.exact R.value book.now) t) }
+    ensures { let B = book_view R.exact R.value book.now in Made result
+        (λ o. MatchOption o (ChildrenBalance R.exact B t) (λ d. UnbalancedAt R.exact B t (edge_view R.exact R.value d.edge) d.amount))
+        (KeptBalance R.exact B t) }
 {
     let parts = children_forms(heap, book, t)?;
     let whole = inflated_forms(heap, book, t)?;

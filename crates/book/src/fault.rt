@@ -9,14 +9,14 @@ use refusals::{Fault, Layer};
 use rings::fault::RingFault;
 
 // An edge in canonical form, and how much more one chain counts it than another.
-#[derive(Clone, Copy)]
+#[derive(Debug, Clone, Copy, PartialEq)]
 pub struct Difference<R> {
     pub edge: Edge<R>,
     pub amount: i64,
 }
 
 // The first fault of a book, with what shows it.
-#[derive(Clone, Copy)]
+#[derive(Debug, Clone, Copy, PartialEq)]
 pub enum BookFault<R> {
     // The factor is not real or not above 1. It carries the number of labels.
     Factor(usize),
@@ -38,8 +38,7 @@ impl<R> Fault for BookFault<R> {
 
     fn number(&self) -> Option<u8> {
         match self {
-            BookFault::Factor(_) => Some(4),
-            BookFault::Length(_) => Some(4),
+            BookFault::Factor(_) | BookFault::Length(_) => Some(4),
             BookFault::Subdivision(_) => Some(5),
             BookFault::Outline(_) => Some(6),
             BookFault::Unbalanced(_, _) => Some(7),
@@ -51,10 +50,8 @@ impl<R> Fault for BookFault<R> {
     fn place(&self) -> usize {
         match self {
             BookFault::Factor(count) => *count,
-            BookFault::Length(label) => *label,
-            BookFault::Subdivision(label) => *label,
-            BookFault::Outline(tile) => *tile,
-            BookFault::Unbalanced(tile, _) => *tile,
+            BookFault::Length(label) | BookFault::Subdivision(label) => *label,
+            BookFault::Outline(tile) | BookFault::Unbalanced(tile, _) => *tile,
             BookFault::Ring(f) => f.place(),
             BookFault::Memory => 0,
         }

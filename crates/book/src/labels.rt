@@ -3,10 +3,11 @@ ghost use Rattle.std.specs.Prelude.{◌≡◌, ◌<◌, map, pos, vec_len, Decid
 ghost use Rattle.rings.specs.Plane.{OnPlane};
 ghost use Rattle.chains.specs.Accepted.{lengths, backwards, turned_part, FactorAboveOne, LengthAboveZero, SubdivisionFits};
 ghost use Rattle.edges.specs.Answers.{Worked};
-ghost use Rattle.edges.specs.Views.{part_view, book_view};
+ghost use Rattle.edges.specs.Views.{book_view};
+ghost use Rattle.job_rows.specs.Shapes.{part_of};
 ghost use Rattle.book.specs.Points.{KeptFactor, KeptLength, KeptLengths, KeptSubdivision, Tested};
 
-use edges::lookups::{is_arrowed, length_of};
+use edges::lookups::{is_arrowed, length_of, parts_of};
 use edges::rows::{Book, Part};
 use rings::fault::RingFault;
 use rings::ring::Ring;
@@ -30,10 +31,9 @@ pub fn is_positive<R: Ring>(z: R) -> Result<bool, RingFault>
 
 // Whether the factor is real and above 1.
 pub fn factor_fits<R: Ring>(book: &Book<R>) -> Result<bool, RingFault>
-    ensures { Tested result (FactorAboveOne R.exact (book_view R.exact R.value book.now)) (KeptFactor R.exact (book_view R.exact R.value book.now)) }
+    ensures { let B = book_view R.exact R.value book.now in Tested result (FactorAboveOne R.exact B) (KeptFactor R.exact B) }
 {
-    let real = is_real(book.factor)?;
-    if !real {
+    if !is_real(book.factor)? {
         return Ok(false);
     }
     let less = book.factor.sub(R::unit(0))?;
@@ -42,11 +42,10 @@ pub fn factor_fits<R: Ring>(book: &Book<R>) -> Result<bool, RingFault>
 
 // Whether label e's length is real and above 0.
 pub fn length_fits<R: Ring>(book: &Book<R>, e: usize) -> Result<bool, RingFault>
-    ensures { Tested result (LengthAboveZero R.exact (book_view R.exact R.value book.now) e) (KeptLength R.exact (book_view R.exact R.value book.now) e) }
+    ensures { let B = book_view R.exact R.value book.now in Tested result (LengthAboveZero R.exact B e) (KeptLength R.exact B e) }
 {
     let length = length_of(book, e);
-    let real = is_real(length)?;
-    if !real {
+    if !is_real(length)? {
         return Ok(false);
     }
     is_positive(length)
@@ -54,58 +53,41 @@ pub fn length_fits<R: Ring>(book: &Book<R>, e: usize) -> Result<bool, RingFault>
 
 // Whether a is b as it reads from its other end: an arrowed sense is turned.
 fn mirrors<R: Ring>(book: &Book<R>, a: Part, b: Part) -> bool
-    ensures { Decides result (part_view a ≡ turned_part R.exact (book_view R.exact R.value book.now) (part_view b)) }
+    ensures { Decides result (part_of a ≡ turned_part R.exact (book_view R.exact R.value book.now) (part_of b)) }
 {
-    if a.label != b.label {
-        return false;
-    }
-    if is_arrowed(book, b.label) {
-        a.forward != b.forward
-    } else {
-        a.forward == b.forward
-    }
+    let turned = Part {
+        label: b.label,
+        forward: b.forward != is_arrowed(book, b.label),
+    };
+    a == turned
 }
 
 // Whether some parts, read backwards with arrowed senses turned, are themselves.
 pub fn is_palindrome<R: Ring>(book: &Book<R>, parts: &[Part]) -> bool
-    ensures { Decides result (backwards R.exact (book_view R.exact R.value book.now) (map part_view parts.now) ≡ map part_view parts.now) }
+    ensures { Decides result (backwards R.exact (book_view R.exact R.value book.now) (map part_of parts.now) ≡ map part_of parts.now) }
 {
-    let n = parts.len();
-    for i in 0..n {
-        let a = parts[i];
-        let b = parts[n - 1 - i];
-        if !mirrors(book, a, b) {
-            return false;
-        }
-    }
-    true
+    parts
+        .iter()
+        .zip(parts.iter().rev())
+        .all(|(a, b)| mirrors(book, *a, *b))
 }
 
 // The lengths of some parts added up, whatever their senses.
 pub fn total_length<R: Ring>(book: &Book<R>, parts: &[Part]) -> Result<R, RingFault>
-    ensures { Worked result (λ z. R.value z ≡ lengths R.exact (book_view R.exact R.value book.now) (map part_view parts.now)) (KeptLengths R.exact (book_view R.exact R.value book.now) (map part_view parts.now)) }
+    ensures { let B = book_view R.exact R.value book.now in Worked result (λ z. R.value z ≡ lengths R.exact B (map part_of parts.now)) (KeptLengths R.exact B (map part_of parts.now)) }
 {
-    let mut total = R::zero();
-    for i in (0..parts.len()).rev() {
-        total = length_of(book, parts[i].label).add(total)?;
-    }
-    Ok(total)
+    parts.iter().rev().try_fold(R::zero(), |total, part| {
+        length_of(book, part.label).add(total)
+    })
 }
 
 // Whether label e's subdivision fills its stretched length and, where e is plain, reads the same from both ends.
 pub(crate) fn subdivision_fits<R: Ring>(book: &Book<R>, e: usize) -> Result<bool, RingFault>
-    requires { e < vec_len book.now.labels }
-    ensures { Tested result (SubdivisionFits R.exact (book_view R.exact R.value book.now) e) (KeptSubdivision R.exact (book_view R.exact R.value book.now) e) }
+    ensures { let B = book_view R.exact R.value book.now in Tested result (SubdivisionFits R.exact B e) (KeptSubdivision R.exact B e) }
 {
-    let label = &book.labels[e];
-    let total = total_length(book, label.subdivision.as_slice())?;
-    let want = book.factor.mul(label.length)?;
-    let fills = total == want;
-    if !fills {
-        return Ok(false);
-    }
-    if label.arrowed {
-        return Ok(true);
-    }
-    Ok(is_palindrome(book, label.subdivision.as_slice()))
+    let parts = parts_of(book, e);
+    let length = length_of(book, e);
+    let total = total_length(book, parts)?;
+    let want = book.factor.mul(length)?;
+    Ok(total == want && (is_arrowed(book, e) || is_palindrome(book, parts)))
 }

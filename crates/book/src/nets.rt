@@ -9,27 +9,15 @@ use crate::fault::Difference;
 use edges::rows::{Counted, Edge};
 use rings::ring::Ring;
 
-// Whether two edges are the same: label, direction and start.
-pub(crate) fn equal<R: Ring>(a: &Edge<R>, b: &Edge<R>) -> bool
-    ensures { result ≡ same_edge R.exact (edge_view R.exact R.value a.now) (edge_view R.exact R.value b.now) }
-{
-    if a.label != b.label {
-        return false;
-    }
-    if a.direction != b.direction {
-        return false;
-    }
-    a.start == b.start
-}
-
 // What an entry adds to the net count of an edge.
-fn share<R: Ring>(x: &Counted<R>, e: &Edge<R>) -> i8
+fn share<R: Ring>(x: &Counted<R>, e: &Edge<R>) -> i64
     ensures { result ≡ (if same_edge R.exact (edge_view R.exact R.value x.now.edge) (edge_view R.exact R.value e.now) then count_of x.now.back else pos 0) }
 {
-    if !equal(&x.edge, e) {
-        return 0;
+    match (x.edge == *e, x.back) {
+        (false, _) => 0,
+        (true, false) => 1,
+        (true, true) => -1,
     }
-    if x.back { -1 } else { 1 }
 }
 
 // The net count of an edge over a chain.
@@ -39,11 +27,7 @@ pub(crate) fn net<R: Ring>(chain: &[Counted<R>], e: &Edge<R>) -> i64
     ensures low { negsuc 8388607 ≤ℤ result }
     ensures high { result ≤ℤ pos 8388608 }
 {
-    let mut sum: i64 = 0;
-    for x in chain {
-        sum += share(x, e) as i64;
-    }
-    sum
+    chain.iter().map(|x| share(x, e)).sum()
 }
 
 // How much more one chain counts an edge than the other.
@@ -64,6 +48,7 @@ pub(crate) fn first_difference<'x, R: Ring>(
         (Agree R.exact (chain_view R.exact R.value parts.now) (chain_view R.exact R.value whole.now))
         (λ d. FirstDifference R.exact (chain_view R.exact R.value parts.now) (chain_view R.exact R.value whole.now) (edge_view R.exact R.value d.edge) d.amount) }
 {
+    // A rule of the project: nested loops left by a label, and no iterator chain.
     let mut found = None;
     'search: for side in [parts, whole] {
         for x in side {

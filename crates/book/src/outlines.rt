@@ -1,16 +1,18 @@
 // What outlines have to be.
-ghost use Rattle.std.specs.Prelude.{◌≡◌, ◌*◌, ◌<◌, map, length, vec_len};
+ghost use Rattle.std.specs.Prelude.{◌≡◌, ◌*◌, map, length};
 ghost use Rattle.exact.specs.Sizes.{Within};
 ghost use Rattle.exact.specs.Sweeps.{total_of, sweep_through};
 ghost use Rattle.rings.specs.Plane.{sweep_bound};
 ghost use Rattle.chains.specs.Edges.{walk_end, corners};
 ghost use Rattle.chains.specs.Accepted.{OutlineCloses};
 ghost use Rattle.edges.specs.Answers.{Worked};
-ghost use Rattle.edges.specs.Views.{step_view, book_view};
+ghost use Rattle.edges.specs.Views.{book_view};
+ghost use Rattle.job_rows.specs.Shapes.{step_of};
 ghost use Rattle.edges.specs.Working.{KeptWalk};
 ghost use Rattle.book.specs.Points.{KeptRound, Tested};
 
 use edges::edge::end_of;
+use edges::lookups::steps_of;
 use edges::rows::{Book, Step};
 use rings::fault::RingFault;
 use rings::group::Group;
@@ -25,11 +27,11 @@ pub struct Round<R, S> {
 
 // Goes the steps from 0 and adds up their sweeps, modulo 2^64. The exact total is small where there are few steps.
 pub fn go_round<R: Ring>(book: &Book<R>, steps: &[Step]) -> Result<Round<R, R::Sweep>, RingFault>
-    ensures { Worked result
-        (λ x. (R.value x.end ≡ walk_end R.exact (book_view R.exact R.value book.now) (map step_view steps.now) R.exact.zero)
-        × (R.total x.swept ≡ total_of R.exact (sweep_through R.exact R.exact.zero (corners R.exact (book_view R.exact R.value book.now) (map step_view steps.now) R.exact.zero)))
-        × Within (length steps.now * sweep_bound) (R.exact.list (sweep_through R.exact R.exact.zero (corners R.exact (book_view R.exact R.value book.now) (map step_view steps.now) R.exact.zero))))
-        (KeptWalk R.exact (book_view R.exact R.value book.now) (map step_view steps.now) R.exact.zero) }
+    ensures { let B = book_view R.exact R.value book.now in Worked result
+        (λ x. (R.value x.end ≡ walk_end R.exact B (map step_of steps.now) R.exact.zero)
+        × (R.total x.swept ≡ total_of R.exact (sweep_through R.exact R.exact.zero (corners R.exact B (map step_of steps.now) R.exact.zero)))
+        × Within (length steps.now * sweep_bound) (R.exact.list (sweep_through R.exact R.exact.zero (corners R.exact B (map step_of steps.now) R.exact.zero))))
+        (KeptWalk R.exact B (map step_of steps.now) R.exact.zero) }
 {
     let mut end = R::zero();
     let mut swept = R::Sweep::zero();
@@ -43,12 +45,10 @@ pub fn go_round<R: Ring>(book: &Book<R>, steps: &[Step]) -> Result<Round<R, R::S
 
 // Whether tile t's outline ends at 0 with a positive area.
 pub(crate) fn outline_closes<R: Ring>(book: &Book<R>, t: usize) -> Result<bool, RingFault>
-    requires { t < vec_len book.now.tiles }
-    ensures { Tested result (OutlineCloses R.exact (book_view R.exact R.value book.now) t) (KeptRound R.exact (book_view R.exact R.value book.now) t) }
+    ensures { let B = book_view R.exact R.value book.now in Tested result (OutlineCloses R.exact B t) (KeptRound R.exact B t) }
 {
-    let round = go_round(book, book.tiles[t].outline.as_slice())?;
-    let closes = round.end == R::zero();
-    if !closes {
+    let round = go_round(book, steps_of(book, t))?;
+    if round.end != R::zero() {
         return Ok(false);
     }
     let height = R::sweep_height(round.swept)?;

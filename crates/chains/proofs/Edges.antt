@@ -13,7 +13,7 @@ use Rattle.exact.proofs.Solver as solver
 use Rattle.chains.specs.Counts.{Counted, scaled, tally, reading}
 use Rattle.chains.specs.Books.{Book, label_at}
 use Rattle.chains.specs.Edges.{Edge, Chain, same_edge, along, edge, reversed, canonical, net, SameNet, ReadsEdges}
-use Rattle.chains.proofs.Multiples as groups
+use Rattle.rings.proofs.Multiples as groups
 use Rattle.chains.proofs.Tallies as tallies
 use Rattle.chains.proofs.Tallies.{negated}
 use Rattle.chains.proofs.Turns as turns

@@ -1,12 +1,13 @@
 -- The two books and the worked frontier, by computing.
 use Rattle.std.proofs.Common.{◌≡◌, ℕ, zero, suc, ◌<◌, Bool, true, false, ◌&&◌, List, [], ◌∷◌, ◌++◌, ℤ, pos, negsuc, sym, refl, ap, true≢false, arith}
-use mathlib.Core.Bool.{false≢true}
+use mathlib.Core.Bool.{and-eq-true_iff, false≢true}
 use mathlib.Core.List.{flat_map}
+use Rattle.std.specs.Ordering.{int_eq}
 use Rattle.std.specs.List.{AllByRecursion}
-use Rattle.exact.specs.Cyclotomic.{Cyclotomic, CyclotomicLaws, same_number}
+use Rattle.std.proofs.lemmas.Bool.Decides.{Decides-int_eq}
+use Rattle.exact.specs.Cyclotomic.{Cyclotomic, CyclotomicLaws}
 use Rattle.exact.specs.JobNumbers.{Part, PlacedNumbers}
 use Rattle.exact.specs.Models.{gaussian, tenfold}
-use Rattle.exact.proofs.Equality.{both, same_number_is}
 use Rattle.exact.proofs.GaussianLaws.{gaussian_laws}
 use Rattle.exact.proofs.TenfoldLaws.{tenfold_laws}
 use Rattle.chains.specs.Counts.{scaled, tally}
@@ -28,12 +29,12 @@ opened = 0
 -- equal net counts at each edge of zs
 agree : (E : Cyclotomic) → Book E → Chain E → Chain E → Chain E → Bool
 agree E B xs ys [] = true
-agree E B xs ys (z ∷ zs) = same_number (net E B xs (canonical E B z).what) (net E B ys (canonical E B z).what) && agree E B xs ys zs
+agree E B xs ys (z ∷ zs) = int_eq (net E B xs (canonical E B z).what) (net E B ys (canonical E B z).what) && agree E B xs ys zs
 
 agrees : (E : Cyclotomic) (B : Book E) (xs ys zs : Chain E) → agree E B xs ys zs ≡ true → AllByRecursion (λ z. net E B xs (canonical E B z).what ≡ net E B ys (canonical E B z).what) zs
 unfolding agree
 agrees E B xs ys [] h = tt
-agrees E B xs ys (z ∷ zs) h = let p = both (same_number (net E B xs (canonical E B z).what) (net E B ys (canonical E B z).what)) (agree E B xs ys zs) h in (same_number_is _ _ p.0, agrees E B xs ys zs p.1)
+agrees E B xs ys (z ∷ zs) h = let p = (and-eq-true_iff _ _).0 h in ((Decides-int_eq _ _).0 p.0, agrees E B xs ys zs p.1)
 
 -- a tile's children and its inflated outline agree at the edges that occur in them
 family : (E : Cyclotomic) → Book E → ℕ → Bool

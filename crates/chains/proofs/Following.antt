@@ -5,7 +5,7 @@ use Rattle.std.specs.List.{range_with_len}
 use Rattle.exact.specs.JobNumbers.{JobNumbers}
 use Rattle.chains.specs.Addresses.{Address, seed_address, child_address, child_count, child_tile, seed_tile, tile_below, node_tile, seeds_from, children_from, later, behind, pending, seed_on, next_child, next_path, next_node, advance}
 use Rattle.chains.specs.Theorems.{PendingFollowsTheCursor}
-use Rattle.chains.proofs.Lists.{map_map}
+use Rattle.std.proofs.lemmas.Simd.{map-map}
 
 -- what is left to count
 count_on : (m n : ℕ) → m < n → range_with_len m (n - m) ≡ m ∷ range_with_len (m + 1) (n - (m + 1))
@@ -43,7 +43,7 @@ module _ (N : JobNumbers) where
   unfolding later tile_below
   later_child t [] i = sym (append-nil _)
   later_child t (k ∷ path) i = ap (λ z. map (◌∷◌ k) z ++ map (λ j. j ∷ []) (range_with_len (k + 1) (child_count N t - (k + 1)))) (later_child (child_tile N t k) path i)
-      ∙ ap (λ z. z ++ map (λ j. j ∷ []) (range_with_len (k + 1) (child_count N t - (k + 1)))) (map-append (◌∷◌ k) _ (later N (child_tile N t k) path) ∙ ap (λ z. z ++ map (◌∷◌ k) (later N (child_tile N t k) path)) (map_map (◌∷◌ k) (λ j. path ++ j ∷ []) _))
+      ∙ ap (λ z. z ++ map (λ j. j ∷ []) (range_with_len (k + 1) (child_count N t - (k + 1)))) (map-append (◌∷◌ k) _ (later N (child_tile N t k) path) ∙ ap (λ z. z ++ map (◌∷◌ k) (later N (child_tile N t k) path)) (map-map (◌∷◌ k) (λ j. path ++ j ∷ []) _))
       ∙ append_assoc _ (map (◌∷◌ k) (later N (child_tile N t k) path)) _
 
   seeds_on : (i : ℕ) → pending N (seed_on N i) ≡ seeds_from N i
@@ -67,7 +67,7 @@ module _ (N : JobNumbers) where
   unfolding behind children_from node_tile
   behind_child a =
       ap (λ z. map (λ path. record { seed = a.seed; path = path }) z ++ seeds_from N (a.seed + 1)) (later_child (seed_tile N a.seed) a.path 0)
-      ∙ ap (λ z. z ++ seeds_from N (a.seed + 1)) (map-append _ _ (later N (seed_tile N a.seed) a.path) ∙ ap (λ z. z ++ map (λ path. record { seed = a.seed; path = path }) (later N (seed_tile N a.seed) a.path)) (map_map _ (λ j. a.path ++ j ∷ []) _))
+      ∙ ap (λ z. z ++ seeds_from N (a.seed + 1)) (map-append _ _ (later N (seed_tile N a.seed) a.path) ∙ ap (λ z. z ++ map (λ path. record { seed = a.seed; path = path }) (later N (seed_tile N a.seed) a.path)) (map-map _ (λ j. a.path ++ j ∷ []) _))
       ∙ append_assoc (map (child_address a) (range_with_len 1 (child_count N (node_tile N a) - 1))) (map (λ path. record { seed = a.seed; path = path }) (later N (seed_tile N a.seed) a.path)) (seeds_from N (a.seed + 1))
 
   descends : (a : Address) → 0 < child_count N (node_tile N a) → pending N (Some (child_address a 0)) ≡ children_from N a 0 ++ behind N a

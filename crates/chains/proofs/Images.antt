@@ -6,7 +6,7 @@ use Rattle.chains.specs.Counts.{Counted}
 use Rattle.chains.specs.Books.{Book, Placement}
 use Rattle.chains.specs.Edges.{Edge, Chain}
 use Rattle.chains.specs.Placements.{image, heading, signed, placed_edge, placed_entry, placed, stretched, child_of}
-use Rattle.chains.proofs.Multiples as groups
+use Rattle.rings.proofs.Multiples as groups
 use Rattle.chains.proofs.Turns as turns
 use Rattle.chains.proofs.Edges.{edge_path, counted_path}
 

@@ -10,7 +10,7 @@ use Rattle.chains.specs.Books.{Book, label_at}
 use Rattle.chains.specs.Edges.{Edge, Chain, along, edge, reversed, canonical, net, SameNet, step_count, walk, ReadsEdges}
 use Rattle.chains.specs.Inflation.{stepped, subdivided, inflate}
 use Rattle.chains.specs.Accepted.{lengths, turned_part, backwards}
-use Rattle.chains.proofs.Multiples as groups
+use Rattle.rings.proofs.Multiples as groups
 use Rattle.chains.proofs.Turns as turns
 use Rattle.chains.proofs.Edges as edges
 use Rattle.chains.proofs.Edges.{counted_path}

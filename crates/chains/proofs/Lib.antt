@@ -1,5 +1,4 @@
 pub mod Lists
-pub mod Multiples
 pub mod Tallies
 pub mod Turns
 pub mod Edges

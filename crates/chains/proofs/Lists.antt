@@ -1,9 +1,10 @@
 -- Lists of nodes and what they come to.
-use Rattle.std.proofs.Common.{◌≡◌, ℕ, zero, suc, List, [], ◌∷◌, ◌++◌, map, length, get_or, sym, refl, ap, ◌∙◌, ap₂, append_assoc}
+use Rattle.std.proofs.Common.{◌≡◌, List, [], ◌∷◌, ◌++◌, map, length, get_or, sym, refl, ap, ◌∙◌, ap₂, append_assoc}
 use mathlib.Core.List.{flat_map}
 use Rattle.std.specs.List.{range_with_len, AllByRecursion}
 use Rattle.std.proofs.lemmas.List.FromFn.{fill_by_all}
 
+-- mathlib's flat_map, which the specs of chains use; the library's lemmas speak of a flat_map of its own
 pub flatMap_append : {A B : Type 0} (f : A → List B) (xs ys : List A) → flat_map f (xs ++ ys) ≡ flat_map f xs ++ flat_map f ys
 unfolding flat_map
 flatMap_append f [] ys = refl
@@ -22,15 +23,6 @@ flatMap_same f g h (x ∷ xs) = ap₂ ◌++◌ (h x) (flatMap_same f g h xs)
 -- a list by its places
 pub by_places : {A B : Type 0} (f : A → List B) (xs : List A) (d : A) → flat_map (λ i. f (get_or xs i d)) (range_with_len 0 (length xs)) ≡ flat_map f xs
 by_places f xs d = sym (flatMap_map f (λ i. get_or xs i d) (range_with_len 0 (length xs))) ∙ ap (flat_map f) (sym (fill_by_all (λ i. get_or xs i d) xs (length xs) d refl (λ k h. refl)))
-
-pub map_map : {A B C : Type 0} (f : B → C) (g : A → B) (xs : List A) → map f (map g xs) ≡ map (λ x. f (g x)) xs
-map_map f g [] = refl
-map_map f g (x ∷ xs) = ap₂ ◌∷◌ refl (map_map f g xs)
-
-pub get_d_map : {A B : Type 0} (f : A → B) (xs : List A) (i : ℕ) (d : A) → get_or (map f xs) i (f d) ≡ f (get_or xs i d)
-get_d_map f [] i d = refl
-get_d_map f (x ∷ xs) zero d = refl
-get_d_map f (x ∷ xs) (suc i) d = get_d_map f xs i d
 
 pub all_append : {A : Type 0} (P : A → Type 0) (xs ys : List A) → AllByRecursion P xs → AllByRecursion P ys → AllByRecursion P (xs ++ ys)
 all_append P [] ys h k = k

@@ -9,7 +9,9 @@ use Rattle.chains.specs.Books.{Placement, placement_of, label_of, tile_of, label
 use Rattle.chains.specs.Placements.{child_of, children_of}
 use Rattle.chains.specs.Addresses.{Address, level, seed_address, child_address, no_entry, child_entries, child_count, child_tile, seed_tile, tile_below, leads_down, node_tile, has_node, seeds_from, children_from, child_placement, placement_below, seed_placement, node_placement, placement_at}
 use Rattle.chains.specs.Theorems.{NodesAreSeedsAndChildren}
-use Rattle.chains.proofs.Lists.{map_map, get_d_map, all_map}
+use Rattle.std.proofs.Math.ListN.{get_or-map}
+use Rattle.std.proofs.lemmas.Simd.{map-map}
+use Rattle.chains.proofs.Lists.{all_map}
 
 -- an element that is there, whatever the default
 getD_map_there : {A B : Type 0} (f : A → B) (xs : List A) (i : ℕ) (d : B) (e : A) → i < length xs → get_or (map f xs) i d ≡ f (get_or xs i e)
@@ -84,11 +86,11 @@ module _ (E : Cyclotomic) (N : JobNumbers) where
   -- a tile's children in the book are those of the job's numbers
   pub book_children : (t : ℕ) → (tile_at (book_of E N) t).children ≡ map (placement_of E) (child_entries N t)
   unfolding book_of
-  book_children t = ap (λ u. u.children) (get_d_map (tile_of E) N.tiles t (record { outline = []; children = [] }))
+  book_children t = ap (λ u. u.children) (get_or-map (tile_of E) N.tiles t (record { outline = []; children = [] }))
 
   pub book_outline : (t : ℕ) → (tile_at (book_of E N) t).outline ≡ (get_or N.tiles t (record { outline = []; children = [] })).outline
   unfolding book_of
-  book_outline t = ap (λ u. u.outline) (get_d_map (tile_of E) N.tiles t (record { outline = []; children = [] }))
+  book_outline t = ap (λ u. u.outline) (get_or-map (tile_of E) N.tiles t (record { outline = []; children = [] }))
 
   pub book_label : (e : ℕ) (d : LabelNumbers) → e < length N.labels → label_at (book_of E N) e ≡ label_of E (get_or N.labels e d)
   unfolding book_of
@@ -108,7 +110,7 @@ module _ (E : Cyclotomic) (N : JobNumbers) where
 
   pub children_by_entries : (p : Placement E) → children_of E (book_of E N) p ≡ map (λ x. child_of E (book_of E N) p (placement_of E x)) (child_entries N p.tile)
   unfolding children_of
-  children_by_entries p = ap (map (child_of E (book_of E N) p)) (book_children p.tile) ∙ map_map _ (placement_of E) (child_entries N p.tile)
+  children_by_entries p = ap (map (child_of E (book_of E N) p)) (book_children p.tile) ∙ map-map _ (placement_of E) (child_entries N p.tile)
 
   child_placement_tile : (p : Placement E) (i : ℕ) → (child_placement E N p i).tile ≡ child_tile N p.tile i
   unfolding child_placement child_of child_tile

@@ -11,7 +11,7 @@ use Rattle.chains.specs.Books.{Book, Placement, label_at, tile_at}
 use Rattle.chains.specs.Edges.{Edge, Chain, same_edge, along, edge, reversed, net, SameNet, step_count, walk, ReadsEdges}
 use Rattle.chains.specs.Inflation.{stepped, subdivided, inflate}
 use Rattle.chains.specs.Placements.{image, heading, signed, placed_edge, placed_entry, placed, stretched, child_of, children_of, outline, placed_outline, outlines}
-use Rattle.chains.proofs.Multiples as groups
+use Rattle.rings.proofs.Multiples as groups
 use Rattle.chains.proofs.Tallies.{negated}
 use Rattle.chains.proofs.Edges as edges
 use Rattle.chains.proofs.Edges.{edge_path, counted_path}

@@ -5,7 +5,7 @@ use lib.IntN.{+ℤ_idl, +ℤ_assoc, *ℤ-zero}
 use Rattle.std.proofs.lemmas.Int.{ints}
 use Rattle.exact.specs.Groups.{AbelianGroup, AbelianLaws, times}
 use Rattle.chains.specs.Counts.{Counted, tally, reading, scaled}
-use Rattle.chains.proofs.Multiples as groups
+use Rattle.rings.proofs.Multiples as groups
 
 -- every count with its sign turned
 unfoldable pub negated : {K : Type 0} → List (Counted K) → List (Counted K)

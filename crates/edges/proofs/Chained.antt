@@ -1,8 +1,8 @@
 -- Chains that are placed, put in canonical form or inflated entry by entry.
-use Rattle.std.proofs.Common.{◌≡◌, ℕ, Bool, List, [], ◌∷◌, ◌++◌, map, ◌*ℤ◌, refl, ap}
+use Rattle.std.proofs.Common.{◌≡◌, ℕ, Bool, not, List, [], ◌∷◌, ◌++◌, map, refl, ap, ap₂}
+use mathlib.Core.Bool.{beq}
 use mathlib.Core.List.{flat_map}
 use Rattle.exact.specs.Cyclotomic.{Cyclotomic}
-use Rattle.exact.specs.JobNumbers as numbers
 use Rattle.chains.specs.Counts as counts
 use Rattle.chains.specs.Counts.{scaled}
 use Rattle.chains.specs.Books as books
@@ -12,8 +12,11 @@ use Rattle.chains.specs.Inflation.{stepped, subdivided, inflate}
 use Rattle.chains.specs.Placements.{placed, placed_entry, placed_outline, outlines}
 use Rattle.edges.specs.declared.rows.Counted.{Counted}
 use Rattle.job_rows.specs.declared.Part.{Part}
-use Rattle.edges.specs.declared.rows.Placement.{Placement}
-use Rattle.edges.specs.Views.{counted_view, chain_view, edge_view, part_view, placement_view, count_of}
+use Rattle.job_rows.specs.declared.Step.{Step}
+use Rattle.job_rows.specs.declared.Placed.{Placed}
+use Rattle.edges.specs.Views.{counted_view, chain_view, edge_view, placement_view, count_of}
+use Rattle.job_rows.specs.Shapes.{part_of, step_of}
+use Rattle.edges.proofs.Entries.{count_times}
 
 module _ {S : Type 0} (E : Cyclotomic) (v : S → E.Elem) where
   -- entries placed
@@ -25,14 +28,14 @@ module _ {S : Type 0} (E : Cyclotomic) (v : S → E.Elem) where
   placed_all p [] = refl
   placed_all p (x ∷ xs) = ap (◌∷◌ (placed_one p x)) (placed_all p xs)
 
-  -- entries scaled
-  abbrev pub scaled_one : Bool → Counted S → counts.Counted (chains.Edge E)
-  scaled_one b x = record { what = edge_view E v x.edge; count = count_of b *ℤ count_of x.back }
+  -- entries taken back or not
+  abbrev pub turned : Bool → Counted S → Counted S
+  turned b x = record { edge = x.edge; back = not (beq x.back b) }
 
-  pub scaled_all : (b : Bool) (xs : List (Counted S)) → map (scaled_one b) xs ≡ scaled (count_of b) (chain_view E v xs)
+  pub turned_all : (b : Bool) (xs : List (Counted S)) → chain_view E v (map (turned b) xs) ≡ scaled (count_of b) (chain_view E v xs)
   unfolding scaled
-  scaled_all b [] = refl
-  scaled_all b (x ∷ xs) = ap (◌∷◌ (scaled_one b x)) (scaled_all b xs)
+  turned_all b [] = refl
+  turned_all b (x ∷ xs) = ap₂ (λ c l. record { what = edge_view E v x.edge; count = c } ∷ l) (count_times b x.back) (turned_all b xs)
 
   module _ (B : books.Book E) where
     -- entries in canonical form
@@ -44,13 +47,13 @@ module _ {S : Type 0} (E : Cyclotomic) (v : S → E.Elem) where
     canonical_all (x ∷ xs) = ap (◌∷◌ (canonical_one x)) (canonical_all xs)
 
     -- placed tiles
-    abbrev pub outline_one : Placement S → chains.Chain E
+    abbrev pub outline_one : Placed S → chains.Chain E
     outline_one p = placed_outline E B (placement_view E v p)
 
-    abbrev pub outline_rest : List (Placement S) → chains.Chain E
+    abbrev pub outline_rest : List (Placed S) → chains.Chain E
     outline_rest ps = outlines E B (map (placement_view E v) ps)
 
-    pub outline_cons : (p : Placement S) (ps : List (Placement S)) → outline_rest (p ∷ ps) ≡ outline_one p ++ outline_rest ps
+    pub outline_cons : (p : Placed S) (ps : List (Placed S)) → outline_rest (p ∷ ps) ≡ outline_one p ++ outline_rest ps
     unfolding outlines flat_map
     outline_cons p ps = refl
 
@@ -74,10 +77,10 @@ module _ {S : Type 0} (E : Cyclotomic) (v : S → E.Elem) where
     inflated_none = refl
 
 -- parts as steps
-abbrev pub step_of_part : ℕ → Part → numbers.Step
-step_of_part j p = record { label = p.label; forward = p.forward; direction = j }
+abbrev pub part_step : ℕ → Part → Step
+part_step j p = record { label = p.label; forward = p.forward; direction = j }
 
-pub steps_of_parts : (j : ℕ) (ps : List Part) → map (step_of_part j) ps ≡ stepped j (map part_view ps)
+pub steps_of_parts : (j : ℕ) (ps : List Part) → map step_of (map (part_step j) ps) ≡ stepped j (map part_of ps)
 unfolding stepped
 steps_of_parts j [] = refl
-steps_of_parts j (p ∷ ps) = ap (◌∷◌ (step_of_part j p)) (steps_of_parts j ps)
+steps_of_parts j (p ∷ ps) = ap (◌∷◌ (step_of (part_step j p))) (steps_of_parts j ps)

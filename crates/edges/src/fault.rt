@@ -5,7 +5,7 @@ ghost use Rattle.edges.specs.declared.fault.ChainFault.TheVariants.{Ring, Memory
 
 use refusals::{Fault, Layer};
 use rings::fault::RingFault;
-use std::alloc::AllocFailed;
+use std::alloc::{AllocError, AllocFailed};
 
 #[derive(Debug, Clone, Copy, PartialEq, Eq)]
 pub enum ChainFault {
@@ -52,6 +52,14 @@ impl<T: Drop> From<AllocFailed<T>> for ChainFault {
     ghost from_gives = { λ _ r. r ≡ Memory };
 
     fn from(_refused: AllocFailed<T>) -> ChainFault {
+        ChainFault::Memory
+    }
+}
+
+impl From<AllocError> for ChainFault {
+    ghost from_gives = { λ _ r. r ≡ Memory };
+
+    fn from(_refused: AllocError) -> ChainFault {
         ChainFault::Memory
     }
 }

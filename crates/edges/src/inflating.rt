@@ -1,47 +1,31 @@
 // Inflation: every edge gives way to its label's subdivision.
-ghost use Rattle.std.specs.Prelude.{◌≡◌, ◌++◌, map};
-ghost use Rattle.chains.specs.Books.{label_at};
+ghost use Rattle.std.specs.Prelude.{◌≡◌, ◌++◌, map, IfOk, OnOk};
 ghost use Rattle.chains.specs.Counts.{scaled};
 ghost use Rattle.chains.specs.Inflation.{stepped, subdivided, inflate};
-ghost use Rattle.edges.specs.Views.{chain_view, edge_view, counted_view, part_view, step_view, book_view, count_of};
+ghost use Rattle.edges.specs.Views.{chain_view, edge_view, counted_view, book_view, count_of};
+ghost use Rattle.job_rows.specs.Shapes.{part_of, step_of};
 ghost use Rattle.edges.specs.Working.{KeptSubdivided, KeptInflated};
 ghost use Rattle.edges.specs.Answers.{Made};
 
 use crate::fault::ChainFault;
+use crate::lookups::parts_of;
 use crate::rows::{Book, Counted, Edge, Part, Step};
 use crate::walks::walk_from;
 use rings::ring::Ring;
-use std::alloc::Global;
+use std::alloc::{AllocError, Global};
 
 // The parts of a subdivision as steps, all in one direction.
-fn steps_in(heap: Global, direction: u32, parts: &[Part]) -> Result<Vec<Step>, ChainFault>
-    ensures { Made result (λ v. map step_view v.items ≡ stepped direction (map part_view parts.now)) (Unit {0}) }
+fn steps_in(heap: Global, direction: u32, parts: &[Part]) -> Result<Vec<Step>, AllocError>
+    ensures { IfOk result (λ v. map step_of v.items ≡ stepped direction (map part_of parts.now)) }
 {
-    let mut out = Vec::new(heap);
-    for p in parts {
-        out.push(Step {
+    parts
+        .iter()
+        .map(|p| Step {
             label: p.label,
             forward: p.forward,
             direction,
-        })?;
-    }
-    Ok(out)
-}
-
-// The subdivision of label e as steps in one direction; beyond the last label there are none.
-fn subdivision_steps<R: Ring>(
-    heap: Global,
-    book: &Book<R>,
-    e: usize,
-    direction: u32,
-) -> Result<Vec<Step>, ChainFault>
-    ensures { Made result (λ v. map step_view v.items ≡ stepped direction (label_at (book_view R.exact R.value book.now) e).subdivision) (Unit {0}) }
-{
-    if e < book.labels.len() {
-        steps_in(heap, direction, book.labels[e].subdivision.as_slice())
-    } else {
-        Ok(Vec::new(heap))
-    }
+        })
+        .collect(heap)
 }
 
 // What an edge becomes when it is inflated once: its label's subdivision, stepped in its direction from F times its start.
@@ -50,12 +34,12 @@ pub fn subdivide<R: Ring>(
     book: &Book<R>,
     x: &Edge<R>,
 ) -> Result<Vec<Counted<R>>, ChainFault>
-    ensures { Made result
-        (λ v. chain_view R.exact R.value v.items ≡ subdivided R.exact (book_view R.exact R.value book.now) (edge_view R.exact R.value x.now))
-        (KeptSubdivided R.exact (book_view R.exact R.value book.now) (edge_view R.exact R.value x.now)) }
+    ensures { let B = book_view R.exact R.value book.now in Made result
+        (λ v. chain_view R.exact R.value v.items ≡ subdivided R.exact B (edge_view R.exact R.value x.now))
+        (KeptSubdivided R.exact B (edge_view R.exact R.value x.now)) }
 {
     let from = book.factor.mul(x.start)?;
-    let steps = subdivision_steps(heap, book, x.label, x.direction)?;
+    let steps = steps_in(heap, x.direction, parts_of(book, x.label))?;
     walk_from(heap, book, steps.as_slice(), from)
 }
 
@@ -64,18 +48,15 @@ fn put_scaled<R: Ring>(
     back: bool,
     chain: &[Counted<R>],
     out: &mut Vec<Counted<R>>,
-) -> Result<(), ChainFault>
-    ensures { Made result
-        (λ _. chain_view R.exact R.value out.new.items ≡ chain_view R.exact R.value out.old.items ++ scaled (count_of back) (chain_view R.exact R.value chain.now))
-        (Unit {0}) }
+) -> Result<(), AllocError>
+    ensures { OnOk result (chain_view R.exact R.value out.new.items ≡ chain_view R.exact R.value out.old.items ++ scaled (count_of back) (chain_view R.exact R.value chain.now)) }
 {
-    for x in chain {
-        out.push(Counted {
+    out.extend(
+        chain.iter().map(|x| Counted {
             edge: x.edge,
             back: x.back != back,
-        })?;
-    }
-    Ok(())
+        }),
+    )
 }
 
 // Puts what a counted edge becomes behind what is there.
@@ -85,13 +66,14 @@ fn put_subdivided<R: Ring>(
     x: &Counted<R>,
     out: &mut Vec<Counted<R>>,
 ) -> Result<(), ChainFault>
-    ensures { Made result
-        (λ _. chain_view R.exact R.value out.new.items ≡ chain_view R.exact R.value out.old.items ++ scaled (count_of x.now.back) (subdivided R.exact (book_view R.exact R.value book.now) (edge_view R.exact R.value x.now.edge)))
-        (KeptSubdivided R.exact (book_view R.exact R.value book.now) (edge_view R.exact R.value x.now.edge)) }
+    ensures { let B = book_view R.exact R.value book.now in Made result
+        (λ _. chain_view R.exact R.value out.new.items ≡ chain_view R.exact R.value out.old.items ++ scaled (count_of x.now.back) (subdivided R.exact B (edge_view R.exact R.value x.now.edge)))
+        (KeptSubdivided R.exact B (edge_view R.exact R.value x.now.edge)) }
 {
     let edge = x.edge;
     let chain = subdivide(heap, book, &edge)?;
-    put_scaled(x.back, chain.as_slice(), out)
+    put_scaled(x.back, chain.as_slice(), out)?;
+    Ok(())
 }
 
 // A chain inflated once.
@@ -100,9 +82,9 @@ pub fn inflate_chain<R: Ring>(
     book: &Book<R>,
     chain: &[Counted<R>],
 ) -> Result<Vec<Counted<R>>, ChainFault>
-    ensures { Made result
-        (λ v. chain_view R.exact R.value v.items ≡ inflate R.exact (book_view R.exact R.value book.now) (chain_view R.exact R.value chain.now))
-        (KeptInflated R.exact (book_view R.exact R.value book.now) (chain_view R.exact R.value chain.now)) }
+    ensures { let B = book_view R.exact R.value book.now in Made result
+        (λ v. chain_view R.exact R.value v.items ≡ inflate R.exact B (chain_view R.exact R.value chain.now))
+        (KeptInflated R.exact B (chain_view R.exact R.value chain.now)) }
 {
     let mut out = Vec::new(heap);
     for x in chain {

@@ -9,14 +9,14 @@ ghost use Rattle.edges.specs.Answers.{Made};
 
 use crate::edge::{canonical_form, placed_edge};
 use crate::fault::ChainFault;
-use crate::rows::{Book, Counted, Placement};
+use crate::rows::{Book, Counted, Placed};
 use crate::walks::outline_of;
 use rings::ring::Ring;
 use std::alloc::Global;
 
 // Puts a chain, as a placement brings it, behind what is there.
 fn put_placed<R: Ring>(
-    p: &Placement<R>,
+    p: &Placed<R>,
     chain: &[Counted<R>],
     out: &mut Vec<Counted<R>>,
 ) -> Result<(), ChainFault>
@@ -35,12 +35,12 @@ fn put_placed<R: Ring>(
 fn put_outline<R: Ring>(
     heap: Global,
     book: &Book<R>,
-    p: &Placement<R>,
+    p: &Placed<R>,
     out: &mut Vec<Counted<R>>,
 ) -> Result<(), ChainFault>
-    ensures { Made result
-        (λ _. chain_view R.exact R.value out.new.items ≡ chain_view R.exact R.value out.old.items ++ placed_outline R.exact (book_view R.exact R.value book.now) (placement_view R.exact R.value p.now))
-        (KeptPlacedOutline R.exact (book_view R.exact R.value book.now) (placement_view R.exact R.value p.now)) }
+    ensures { let B = book_view R.exact R.value book.now in Made result
+        (λ _. chain_view R.exact R.value out.new.items ≡ chain_view R.exact R.value out.old.items ++ placed_outline R.exact B (placement_view R.exact R.value p.now))
+        (KeptPlacedOutline R.exact B (placement_view R.exact R.value p.now)) }
 {
     let chain = outline_of(heap, book, p.tile)?;
     put_placed(p, chain.as_slice(), out)
@@ -50,11 +50,11 @@ fn put_outline<R: Ring>(
 pub fn outline_at<R: Ring>(
     heap: Global,
     book: &Book<R>,
-    p: &Placement<R>,
+    p: &Placed<R>,
 ) -> Result<Vec<Counted<R>>, ChainFault>
-    ensures { Made result
-        (λ v. chain_view R.exact R.value v.items ≡ placed_outline R.exact (book_view R.exact R.value book.now) (placement_view R.exact R.value p.now))
-        (KeptPlacedOutline R.exact (book_view R.exact R.value book.now) (placement_view R.exact R.value p.now)) }
+    ensures { let B = book_view R.exact R.value book.now in Made result
+        (λ v. chain_view R.exact R.value v.items ≡ placed_outline R.exact B (placement_view R.exact R.value p.now))
+        (KeptPlacedOutline R.exact B (placement_view R.exact R.value p.now)) }
 {
     let mut edges = Vec::new(heap);
     put_outline(heap, book, p, &mut edges)?;
@@ -65,11 +65,11 @@ pub fn outline_at<R: Ring>(
 pub fn outlines_at<R: Ring>(
     heap: Global,
     book: &Book<R>,
-    placements: &[Placement<R>],
+    placements: &[Placed<R>],
 ) -> Result<Vec<Counted<R>>, ChainFault>
-    ensures { Made result
-        (λ v. chain_view R.exact R.value v.items ≡ outlines R.exact (book_view R.exact R.value book.now) (map (placement_view R.exact R.value) placements.now))
-        (AllByRecursion (KeptPlacedOutline R.exact (book_view R.exact R.value book.now)) (map (placement_view R.exact R.value) placements.now)) }
+    ensures { let B = book_view R.exact R.value book.now in Made result
+        (λ v. chain_view R.exact R.value v.items ≡ outlines R.exact B (map (placement_view R.exact R.value) placements.now))
+        (AllByRecursion (KeptPlacedOutline R.exact B) (map (placement_view R.exact R.value) placements.now)) }
 {
     let mut out = Vec::new(heap);
     for p in placements {
@@ -84,9 +84,9 @@ pub fn canonical_chain<R: Ring>(
     book: &Book<R>,
     chain: &[Counted<R>],
 ) -> Result<Vec<Counted<R>>, ChainFault>
-    ensures { Made result
-        (λ v. chain_view R.exact R.value v.items ≡ map (canonical R.exact (book_view R.exact R.value book.now)) (chain_view R.exact R.value chain.now))
-        (KeptForms R.exact (book_view R.exact R.value book.now) (chain_view R.exact R.value chain.now)) }
+    ensures { let B = book_view R.exact R.value book.now in Made result
+        (λ v. chain_view R.exact R.value v.items ≡ map (canonical R.exact B) (chain_view R.exact R.value chain.now))
+        (KeptForms R.exact B (chain_view R.exact R.value chain.now)) }
 {
     let mut out = Vec::new(heap);
     for x in chain {

@@ -10,7 +10,7 @@ pub(crate) fn reduced<R: Ring>(j: u32) -> u32
     ensures is { result ≡ j % R.exact.n }
     ensures low { result < R.exact.n }
 {
-    j % R::order()
+    j % R::N
 }
 
 // Half a turn.
@@ -18,7 +18,7 @@ pub(crate) fn half_turn<R: Ring>() -> u32
     ensures is { result ≡ half R.exact }
     ensures small { result ≤ 128 }
 {
-    R::order() / 2
+    R::N / 2
 }
 
 // The direction k + j.
@@ -32,7 +32,7 @@ pub(crate) fn sum_of_turns<R: Ring>(k: u32, j: u32) -> u32
 pub(crate) fn difference_of_turns<R: Ring>(k: u32, j: u32) -> u32
     ensures { result ≡ minus_turn R.exact k j }
 {
-    reduced::<R>(reduced::<R>(k) + (R::order() - reduced::<R>(j)))
+    reduced::<R>(reduced::<R>(k) + (R::N - reduced::<R>(j)))
 }
 
 // The opposite direction, j + n/2.

@@ -2,12 +2,14 @@
 ghost use Rattle.std.specs.Prelude.{◌≡◌, map};
 ghost use Rattle.chains.specs.Edges.{walk, corners};
 ghost use Rattle.chains.specs.Placements.{outline};
-ghost use Rattle.edges.specs.Views.{chain_view, step_view, book_view};
+ghost use Rattle.edges.specs.Views.{chain_view, book_view};
+ghost use Rattle.job_rows.specs.Shapes.{step_of};
 ghost use Rattle.edges.specs.Working.{KeptWalk, KeptOutline};
 ghost use Rattle.edges.specs.Answers.{Made};
 
 use crate::edge::{end_of, step_from};
 use crate::fault::ChainFault;
+use crate::lookups::steps_of;
 use crate::rows::{Book, Counted, Step};
 use rings::ring::Ring;
 use std::alloc::Global;
@@ -19,9 +21,9 @@ pub fn walk_from<R: Ring>(
     steps: &[Step],
     from: R,
 ) -> Result<Vec<Counted<R>>, ChainFault>
-    ensures { Made result
-        (λ v. chain_view R.exact R.value v.items ≡ walk R.exact (book_view R.exact R.value book.now) (map step_view steps.now) (R.value from))
-        (KeptWalk R.exact (book_view R.exact R.value book.now) (map step_view steps.now) (R.value from)) }
+    ensures { let B = book_view R.exact R.value book.now in Made result
+        (λ v. chain_view R.exact R.value v.items ≡ walk R.exact B (map step_of steps.now) (R.value from))
+        (KeptWalk R.exact B (map step_of steps.now) (R.value from)) }
 {
     let mut out = Vec::new(heap);
     let mut q = from;
@@ -40,9 +42,9 @@ pub fn corners_from<R: Ring>(
     steps: &[Step],
     from: R,
 ) -> Result<Vec<R>, ChainFault>
-    ensures { Made result
-        (λ v. map R.value v.items ≡ corners R.exact (book_view R.exact R.value book.now) (map step_view steps.now) (R.value from))
-        (KeptWalk R.exact (book_view R.exact R.value book.now) (map step_view steps.now) (R.value from)) }
+    ensures { let B = book_view R.exact R.value book.now in Made result
+        (λ v. map R.value v.items ≡ corners R.exact B (map step_of steps.now) (R.value from))
+        (KeptWalk R.exact B (map step_of steps.now) (R.value from)) }
 {
     let mut out = Vec::new(heap);
     let mut q = from;
@@ -53,19 +55,15 @@ pub fn corners_from<R: Ring>(
     Ok(out)
 }
 
-// The edges of tile t's outline; beyond the last tile there are none.
+// The edges of tile t's outline.
 pub fn outline_of<R: Ring>(
     heap: Global,
     book: &Book<R>,
     t: usize,
 ) -> Result<Vec<Counted<R>>, ChainFault>
-    ensures { Made result
-        (λ v. chain_view R.exact R.value v.items ≡ outline R.exact (book_view R.exact R.value book.now) t)
-        (KeptOutline R.exact (book_view R.exact R.value book.now) t) }
+    ensures { let B = book_view R.exact R.value book.now in Made result
+        (λ v. chain_view R.exact R.value v.items ≡ outline R.exact B t)
+        (KeptOutline R.exact B t) }
 {
-    if t < book.tiles.len() {
-        walk_from(heap, book, book.tiles[t].outline.as_slice(), R::zero())
-    } else {
-        Ok(Vec::new(heap))
-    }
+    walk_from(heap, book, steps_of(book, t), R::zero())
 }

@@ -1,6 +1,8 @@
 -- An exact ring: the whole-number combinations of the powers of ζ, a turn by one n-th of a circle.
 -- Coefficients are unbounded, so no operation refuses.
-use Rattle.std.specs.Prelude.{◌≡◌, ℕ, ◌/◌, ◌%◌, ◌≤◌, Bool, true, false, ◌&&◌, List, [], ◌∷◌, length, ℤ, pos, negsuc, neg_ℤ, ◌==◌}
+use Rattle.std.specs.Prelude.{◌≡◌, ℕ, ◌/◌, ◌%◌, ◌≤◌, Bool, List, [], ◌∷◌, length, ℤ, pos, negsuc, neg_ℤ}
+use Rattle.std.specs.Ordering.{int_eq}
+use Rattle.std.specs.Cmp.Lexicographic.{pointwise}
 
 -- An element is meant by a list of d coefficients c0, c1, .. and stands for c0 + c1ζ + c2ζ² + ..
 -- Conjugation mirrors in the real axis; the height is the sign of the imaginary part.
@@ -42,21 +44,9 @@ abbrev pub combination : (E : Cyclotomic) → List ℤ → E.Elem
 combination E [] = E.zero
 combination E (c ∷ cs) = E.add (whole_times E c E.one) (E.mul E.zeta (combination E cs))
 
--- Whether two lists of whole numbers are the same; by it, whether two elements are.
-abbrev pub same_number : ℤ → ℤ → Bool
-same_number (pos a) (pos b) = a == b
-same_number (pos a) (negsuc b) = false
-same_number (negsuc a) (pos b) = false
-same_number (negsuc a) (negsuc b) = a == b
-
-abbrev pub same_list : List ℤ → List ℤ → Bool
-same_list [] [] = true
-same_list [] (b ∷ m) = false
-same_list (a ∷ l) [] = false
-same_list (a ∷ l) (b ∷ m) = same_number a b && same_list l m
-
+-- Whether two elements have the same list of coefficients.
 abbrev pub same_element : (E : Cyclotomic) → E.Elem → E.Elem → Bool
-same_element E x y = same_list (E.list x) (E.list y)
+same_element E x y = pointwise int_eq (E.list x) (E.list y)
 
 -- The laws of a commutative ring with one.
 pub record CommutativeLaws {A : Type 0} (zero one : A) (add mul : A → A → A) (neg : A → A) : Type 0 where

@@ -8,38 +8,26 @@ ghost use Rattle.exact.specs.Models.{gaussian, tenfold};
 ghost use Rattle.exact.specs.Sizes.{SizeLaws};
 ghost use Rattle.exact.specs.Theorems.{EveryQuarticReductionGivesARing};
 
-pub fn quartic_reductions_give_rings() -> u8
+pub fn quartic_reductions_give_rings()
     ensures { EveryQuarticReductionGivesARing }
-{
-    0
-}
+{}
 
-pub fn gaussian_is_an_exact_ring() -> u8
+pub fn gaussian_is_an_exact_ring()
     ensures { CyclotomicLaws gaussian }
-{
-    0
-}
+{}
 
-pub fn tenfold_is_an_exact_ring() -> u8
+pub fn tenfold_is_an_exact_ring()
     ensures { CyclotomicLaws tenfold }
-{
-    0
-}
+{}
 
-pub fn totals_form_a_commutative_group() -> u8
+pub fn totals_form_a_commutative_group()
     ensures { AbelianLaws totals }
-{
-    0
-}
+{}
 
-pub fn gaussian_coefficients_grow_little() -> u8
+pub fn gaussian_coefficients_grow_little()
     ensures { SizeLaws gaussian }
-{
-    0
-}
+{}
 
-pub fn tenfold_coefficients_grow_little() -> u8
+pub fn tenfold_coefficients_grow_little()
     ensures { SizeLaws tenfold }
-{
-    0
-}
+{}

@@ -1,9 +1,12 @@
 // The faults of a job's text, and of a buffer for it.
 #![tactic(auto)]
 
+ghost use Rattle.std.specs.Prelude.{◌≡◌};
 ghost use Rattle.faults.specs.Told.{text_refusal, buffer_refusal};
+ghost use Rattle.faults.specs.declared.TextFault.TheVariants.{Memory};
 
 use refusals::{Fault, Layer};
+use std::alloc::AllocError;
 
 // Why a text is no job: three faults of a line, which is counted from 1, and a text that is too long. Want of memory is
 // no fault of the text, and has no number.
@@ -23,8 +26,7 @@ impl Fault for TextFault {
         match self {
             TextFault::Misspelt(_) => Some(1),
             TextFault::Misplaced(_) => Some(2),
-            TextFault::Unfit(_) => Some(3),
-            TextFault::Overlong => Some(3),
+            TextFault::Unfit(_) | TextFault::Overlong => Some(3),
             TextFault::Memory => None,
         }
     }
@@ -32,9 +34,8 @@ impl Fault for TextFault {
     // The line, or 0 for the whole text.
     fn place(&self) -> usize {
         match self {
-            TextFault::Misspelt(line) => *line,
-            TextFault::Misplaced(line) => *line,
-            TextFault::Unfit(line) => *line,
+            TextFault::Misspelt(line) | TextFault::Misplaced(line) | TextFault::Unfit(line) =>
+                *line,
             TextFault::Overlong => 0,
             TextFault::Memory => 0,
         }
@@ -42,6 +43,14 @@ impl Fault for TextFault {
 
     fn layer(&self) -> Layer {
         Layer::Text
+    }
+}
+
+impl From<AllocError> for TextFault {
+    ghost from_gives = { λ _ r. r ≡ Memory };
+
+    fn from(_refused: AllocError) -> TextFault {
+        TextFault::Memory
     }
 }
 

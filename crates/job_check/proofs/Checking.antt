@@ -16,7 +16,7 @@ use Rattle.edges.specs.declared.fault.ChainFault.TheVariants as chain
 use Rattle.book.specs.Faults.{passed_on}
 use Rattle.book.specs.declared.fault.BookFault.{BookFault}
 use Rattle.book.specs.declared.fault.BookFault.TheVariants as book
-use Rattle.jobs.specs.Limits.{most_parts, most_steps}
+use Rattle.job_rows.specs.Limits.{most_parts, most_steps}
 use Rattle.jobs.specs.Ranges.{Coefficient, LabelFits, TileFits, PlacedFits, InRange, kinds_of}
 use Rattle.small_books.specs.Sizes.{Small, Limited, job_bound}
 use Rattle.small_books.proofs.Whole.{stays}

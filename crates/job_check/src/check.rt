@@ -19,10 +19,10 @@ pub fn check_job<R: Ring>(heap: Global, job: &RingJob<R>) -> Result<(), CheckFau
         (λ _. Passes R.exact (job_numbers R.exact R.value job.now))
         (Fails R.exact (job_numbers R.exact R.value job.now) R.value) }
 {
-    if job.order != R::order() {
+    if job.order != R::N {
         return Err(CheckFault::WrongRing);
     }
-    if job.rank != R::rank() {
+    if job.rank != R::D {
         return Err(CheckFault::WrongRing);
     }
     check(heap, &job.book)?;

@@ -8,7 +8,7 @@ use book::fault::BookFault;
 use edges::fault::ChainFault;
 use refusals::{Fault, Layer};
 
-#[derive(Clone, Copy)]
+#[derive(Debug, Clone, Copy, PartialEq)]
 pub enum CheckFault<R> {
     // The ring's n or d is not the job's.
     WrongRing,
@@ -53,9 +53,6 @@ impl<R> From<ChainFault> for CheckFault<R> {
     ghost from_gives = { λ f r. r ≡ Book (passed_on f) };
 
     fn from(f: ChainFault) -> CheckFault<R> {
-        match f {
-            ChainFault::Ring(f) => CheckFault::Book(BookFault::Ring(f)),
-            ChainFault::Memory => CheckFault::Book(BookFault::Memory),
-        }
+        CheckFault::Book(BookFault::from(f))
     }
 }

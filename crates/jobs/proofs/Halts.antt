@@ -1,5 +1,6 @@
 -- Reading line after line: how far it came, and why it stopped.
 use Rattle.std.proofs.Common.{◌≡◌, ℕ, ◌+◌, ◌*◌, ◌^◌, ◌<◌, ◌≤◌, ◌⊎◌, List, [], ◌∷◌, ◌++◌, map, length, ℤ, pos, IfSome, Some, None, Ok, Err, vec_items, Option, Result, sym, refl, ap, ◌∙◌, subst, inl, inr, append_assoc, append-nil, arith, MatchResult}
+use Rattle.std.specs.Global.{Vec}
 use Rattle.std.specs.List.{flat_map}
 use Rattle.std.proofs.ByRecursion.{All-push}
 use Rattle.std.proofs.lemmas.List.{flat_map_more, length_push, length-append, length-map, nil_from_length}
@@ -8,16 +9,17 @@ use Rattle.lines.specs.Letters.{Letter, letter_D}
 use Rattle.lines.specs.Lines.{Line, line, text, spelt, WellSpelt, FirstLine}
 use Rattle.lines.proofs.Fronted.{first_shorter}
 use Rattle.lines.specs.declared.Misread.{Misread}
-use Rattle.lines.specs.declared.Misread.TheVariants.{Misspelt as Garbled, Memory as Unread}
+use Rattle.lines.specs.declared.Misread.TheVariants.{Misspelt as Garbled, Memory as NoneLeft}
 use Rattle.jobs.specs.declared.draft.Misfit.{Misfit}
+use Rattle.jobs.specs.declared.reading.LineFault.TheVariants.{Unread, Unadded}
 use Rattle.jobs.specs.declared.draft.Misfit.TheVariants.{Place as NoPlace, Numbers, Memory as NoRoom}
 use Rattle.faults.specs.declared.TextFault.{TextFault}
 use Rattle.faults.specs.declared.TextFault.TheVariants.{Misspelt, Misplaced, Unfit, Overlong, Memory}
 use Rattle.jobs.specs.declared.job.Job.{Job}
 use Rattle.jobs.specs.declared.draft.Draft.{Draft}
-use Rattle.jobs.specs.declared.rows.Tile.{Tile}
-use Rattle.jobs.specs.Rows.{head_of, tile_of}
-use Rattle.jobs.specs.Drafts.{Added, front}
+use Rattle.job_rows.specs.declared.Tile.{Tile}
+use Rattle.jobs.specs.Rows.{tile_of}
+use Rattle.jobs.specs.Drafts.{Added, front, head_of}
 use Rattle.faults.specs.Told.{told}
 use Rattle.jobs.specs.Faults.{Refuses}
 use Rattle.jobs.specs.Fronts.{Front, nothing, Steps, Leads, job_of}
@@ -26,23 +28,23 @@ use Rattle.jobs.specs.Limits.{most_bytes, most_labels}
 use Rattle.jobs.specs.Ranges.{InRange, Shaped}
 use Rattle.jobs.specs.Refusals.{At, Why, misspelt, misplaced, early, unfit, late, Refused, stopped, first_beyond}
 use Rattle.jobs.specs.Spelled.{label_line, subdivision_line, seed_line, tile_lines, lines_of, spelled}
-use Rattle.jobs.specs.Turns.{Taken, Halted, ReadUp, misfit_told, misread_told}
+use Rattle.jobs.specs.Turns.{Taken, Halted, ReadUp, fault_at}
 use Rattle.jobs.proofs.Lates.{late_lines, tiles_named, at_line}
 use Rattle.jobs.proofs.Shapes.{complete_ends}
 use Rattle.jobs.proofs.Verdicts.{refused_one, job_accepted, job_one}
 use Rattle.jobs.proofs.Widths.{job_fits}
 
-pub halted_misfit : (e : Misfit) (r : TextFault) (f g : Front) (t : List ℕ) (a : Letter) (zs zs' : List ℤ) (more : List ℕ) (at : ℕ) → r ≡ misfit_told e at → FirstLine t a zs more → Added f a zs' (Err e) g → zs' ≡ zs → Halted t f at r
-halted_misfit e r f g t a zs zs' more at p x h q = subst (Halted t f at) (sym p) (go e (subst (λ y. Added f a y (Err e) g) q h))
+pub halted_unadded : (e : Misfit) (f g : Front) (t : List ℕ) (a : Letter) (zs zs' : List ℤ) (more : List ℕ) (at : ℕ) → FirstLine t a zs more → Added f a zs' (Err e) g → zs' ≡ zs → Halted t f at (fault_at (Unadded e) at)
+halted_unadded e f g t a zs zs' more at x h q = go e (subst (λ y. Added f a y (Err e) g) q h)
   where
-    go : (e : Misfit) → Added f a zs (Err e) g → Halted t f at (misfit_told e at)
+    go : (e : Misfit) → Added f a zs (Err e) g → Halted t f at (fault_at (Unadded e) at)
     go NoPlace n = λ before k. misplaced refl k a zs more x n
     go Numbers n = λ before k. unfit refl k a zs more x n.0 n.1
     go NoRoom n = λ before k. tt
 
-pub halted_misread : (e : Misread) (r : TextFault) (f : Front) (t : List ℕ) (at : ℕ) → r ≡ misread_told e at → 0 < length t → (e ≡ Garbled → (a : Letter) (zs : List ℤ) (rest : List ℕ) → FirstLine t a zs rest → ⊥) → Halted t f at r
-halted_misread Garbled r f t at p some h = subst (Halted t f at) (sym p) (λ before k. misspelt refl k some (h refl))
-halted_misread Unread r f t at p some h = subst (Halted t f at) (sym p) (λ before k. tt)
+pub halted_unread : (e : Misread) (f : Front) (t : List ℕ) (at : ℕ) → 0 < length t → (e ≡ Garbled → (a : Letter) (zs : List ℤ) (rest : List ℕ) → FirstLine t a zs rest → ⊥) → Halted t f at (fault_at (Unread e) at)
+halted_unread Garbled f t at some h = λ before k. misspelt refl k some (h refl)
+halted_unread NoneLeft f t at some h = λ before k. tt
 
 -- how far the lines of t are read, as the front f; at is the number of the next line
 pub record Sofar (t : List ℕ) (f : Front) (rest : List ℕ) (at : ℕ) : Type 0 where
@@ -158,18 +160,18 @@ refuses_of (Err Overlong) t h n k x = inr (told_same 3 0 n k (refused_one t 3 0 
 refuses_of (Err Memory) t h n k x = inl refl
 
 -- the same, as a draft holds it
-pub late_of : (d : Draft) (n : ℕ) (ts : List Tile) → n ≡ length (vec_items d.labels) → ts ≡ vec_items d.tiles
+pub late_of : (d : Draft) (n : ℕ) (ts : List (Tile (Vec ℤ))) → n ≡ length (vec_items d.heads) → ts ≡ vec_items d.tiles
     → first_beyond (length ts) (3 + 2 * n) (flat_map tile_lines (map tile_of ts)) ≡ first_beyond (length (front d).tiles) (3 + length (front d).heads + length (front d).heads) (flat_map tile_lines (front d).tiles)
 late_of d n ts e q =
     let a = length-map (vec_items d.tiles) tile_of in
-    let b = length-map (vec_items d.labels) head_of in
+    let b = length-map (vec_items d.heads) head_of in
     let m : length ts ≡ length (front d).tiles = ap length q ∙ sym a in
     let k : 3 + 2 * n ≡ 3 + length (front d).heads + length (front d).heads = omega arith in
     late_same _ _ _ _ _ _ m k (ap (λ t. flat_map tile_lines (map tile_of t)) q)
 
-pub room_of : (t : List ℕ) (d : Draft) (n : ℕ) (ts : List Tile) → Read t (front d) → n ≡ length (vec_items d.labels) → ts ≡ vec_items d.tiles → 3 + 2 * n + length (flat_map tile_lines (map tile_of ts)) < 2 ^ 64
+pub room_of : (t : List ℕ) (d : Draft) (n : ℕ) (ts : List (Tile (Vec ℤ))) → Read t (front d) → n ≡ length (vec_items d.heads) → ts ≡ vec_items d.tiles → 3 + 2 * n + length (flat_map tile_lines (map tile_of ts)) < 2 ^ 64
 room_of t d n ts u e q =
-    let b = length-map (vec_items d.labels) head_of in
+    let b = length-map (vec_items d.heads) head_of in
     let l = ap (λ t. length (flat_map tile_lines (map tile_of t))) q in
     omega (arith, u.room)
 

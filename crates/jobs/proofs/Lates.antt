@@ -1,9 +1,12 @@
 -- Children that name a tile beyond the last.
-use Rattle.std.proofs.Common.{◌≡◌, ℕ, suc, ◌+◌, ◌<◌, ◌≤◌, Bool, true, false, cond, leb, List, [], ◌∷◌, ◌++◌, map, length, get_or, drop, Some, None, vec_items, Option, sym, refl, ap, ◌∙◌, arith}
-use Rattle.jobs.specs.declared.rows.Placed.{Placed}
-use Rattle.jobs.specs.declared.rows.Tile.{Tile}
+use Rattle.std.proofs.Common.{◌≡◌, ℕ, suc, ◌+◌, ◌<◌, Bool, true, false, cond, leb, nat_le, position, List, [], ◌∷◌, ◌++◌, map, length, get_or, drop, Some, None, vec_items, Option, ℤ, sym, refl, ap, ◌∙◌, arith}
+use Rattle.std.specs.Global.{Vec}
+use Rattle.job_rows.specs.declared.Placed.{Placed}
+use Rattle.job_rows.specs.declared.Tile.{Tile}
 use Rattle.jobs.specs.Rows.{placed_of, tile_of}
-use Rattle.std.specs.List.{flat_map, AllByRecursion}
+use Rattle.std.specs.List.{flat_map, AllByRecursion, position_from}
+use Rattle.std.specs.Option.{option_map}
+use Rattle.std.proofs.lemmas.Iterator.Adapters.{position_from-zero}
 use Rattle.std.proofs.lemmas.List.{length-append, length-map, drop_more}
 use Rattle.std.proofs.lemmas.Bool.Decides.{nat_tests}
 use Rattle.exact.specs.JobNumbers.{JobNumbers, LabelNumbers, TileNumbers, PlacedNumbers}
@@ -81,34 +84,44 @@ tiles_named m k (t ∷ ts) e =
     let h = none_left _ _ (sym (beyond_append m k (tile_lines t) (flat_map tile_lines ts)) ∙ e) in
     (children_named m (k + 1) t.children h.0, tiles_named m (k + length (tile_lines t)) ts h.1)
 
--- a loop over the children, and one over the tiles
-pub child_step : (m k i : ℕ) (cs : List Placed) (x : Placed) → i < length cs → x ≡ get_or cs i x → first_beyond m k (map child_line (map placed_of (drop i cs))) ≡ cond (leb m x.tile) (Some k) (first_beyond m (k + 1) (map child_line (map placed_of (drop (i + 1) cs))))
-child_step m k i cs x l e = ap (λ t. first_beyond m k (map child_line (map placed_of t))) (drop_more cs i x l ∙ ap (λ y. y ∷ drop (i + 1) cs) (sym e))
+-- the first child beyond, by its place among the children
+from_line : (m k : ℕ) (cs : List (Placed (Vec ℤ))) → first_beyond m k (map child_line (map placed_of cs)) ≡ position_from (λ (p : Placed (Vec ℤ)). nat_le m p.tile) k cs
+from_line m k [] = refl
+from_line m k (c ∷ cs) = ap (cond (nat_le m c.tile) (Some k)) (from_line m (k + 1) cs)
 
-pub child_late : (m k i : ℕ) (cs : List Placed) (x : Placed) → i < length cs → x ≡ get_or cs i x → m ≤ x.tile → first_beyond m k (map child_line (map placed_of (drop i cs))) ≡ Some k
-child_late m k i cs x l e h = let b : leb m x.tile ≡ true = grind (arith, nat_tests) in child_step m k i cs x l e ∙ ap (λ b. cond b (Some k) (first_beyond m (k + 1) (map child_line (map placed_of (drop (i + 1) cs))))) b
+shifted : {X : Type 0} (t : X → Bool) (k j : ℕ) (xs : List X) → position_from t (k + j) xs ≡ option_map (λ i. k + i) (position_from t j xs)
+shifted t k j [] = refl
+shifted t k j (x ∷ xs) = go (t x) (let e : k + j + 1 ≡ k + (j + 1) = omega arith in ap (λ n. position_from t n xs) e ∙ shifted t k (j + 1) xs)
+  where
+    go : (b : Bool) → position_from t (k + j + 1) xs ≡ option_map (λ i. k + i) (position_from t (j + 1) xs) → cond b (Some (k + j)) (position_from t (k + j + 1) xs) ≡ option_map (λ i. k + i) (cond b (Some j) (position_from t (j + 1) xs))
+    go true h = refl
+    go false h = h
 
-pub child_fine : (m k i : ℕ) (cs : List Placed) (x : Placed) → i < length cs → x ≡ get_or cs i x → x.tile < m → first_beyond m k (map child_line (map placed_of (drop i cs))) ≡ first_beyond m (k + 1) (map child_line (map placed_of (drop (i + 1) cs)))
-child_fine m k i cs x l e h = let b : leb m x.tile ≡ false = grind (arith, nat_tests) in child_step m k i cs x l e ∙ ap (λ b. cond b (Some k) (first_beyond m (k + 1) (map child_line (map placed_of (drop (i + 1) cs))))) b
+pub child_first : (m k : ℕ) (cs : List (Placed (Vec ℤ))) → first_beyond m k (map child_line (map placed_of cs)) ≡ option_map (λ i. k + i) (position (λ (p : Placed (Vec ℤ)). nat_le m p.tile) cs)
+child_first m k cs =
+    let t = λ (p : Placed (Vec ℤ)). nat_le m p.tile in
+    let z : k ≡ k + 0 = omega arith in
+    from_line m k cs ∙ ap (λ n. position_from t n cs) z ∙ shifted t k 0 cs ∙ ap (option_map (λ i. k + i)) (sym (position_from-zero t cs))
 
+-- a loop over the tiles
 pub at_line : (m a b : ℕ) (ls : List Line) → a ≡ b → first_beyond m a ls ≡ first_beyond m b ls
 at_line m a b ls e = ap (λ z. first_beyond m z ls) e
 
-pub tile_step : (m k i : ℕ) (ts : List Tile) (x : Tile) → i < length ts → x ≡ get_or ts i x → flat_map tile_lines (map tile_of (drop i ts)) ≡ tile_lines (tile_of x) ++ flat_map tile_lines (map tile_of (drop (i + 1) ts))
+pub tile_step : (m k i : ℕ) (ts : List (Tile (Vec ℤ))) (x : Tile (Vec ℤ)) → i < length ts → x ≡ get_or ts i x → flat_map tile_lines (map tile_of (drop i ts)) ≡ tile_lines (tile_of x) ++ flat_map tile_lines (map tile_of (drop (i + 1) ts))
 tile_step m k i ts x l e = ap (λ t. flat_map tile_lines (map tile_of t)) (drop_more ts i x l ∙ ap (λ y. y ∷ drop (i + 1) ts) (sym e))
 
-pub tile_length : (i : ℕ) (ts : List Tile) (x : Tile) → i < length ts → x ≡ get_or ts i x → length (flat_map tile_lines (map tile_of (drop i ts))) ≡ 1 + length (vec_items x.children) + length (flat_map tile_lines (map tile_of (drop (i + 1) ts)))
+pub tile_length : (i : ℕ) (ts : List (Tile (Vec ℤ))) (x : Tile (Vec ℤ)) → i < length ts → x ≡ get_or ts i x → length (flat_map tile_lines (map tile_of (drop i ts))) ≡ 1 + length (vec_items x.children) + length (flat_map tile_lines (map tile_of (drop (i + 1) ts)))
 tile_length i ts x l e =
     let a = ap length (tile_step 0 0 i ts x l e) ∙ length-append (tile_lines (tile_of x)) _ in
     let b = length-map (map placed_of (vec_items x.children)) child_line in
     let c = length-map (vec_items x.children) placed_of in
     omega arith
 
-pub tile_late : (m k i late : ℕ) (ts : List Tile) (x : Tile) → i < length ts → x ≡ get_or ts i x → Some late ≡ first_beyond m (k + 1) (map child_line (map placed_of (vec_items x.children))) → first_beyond m k (flat_map tile_lines (map tile_of (drop i ts))) ≡ Some late
+pub tile_late : (m k i late : ℕ) (ts : List (Tile (Vec ℤ))) (x : Tile (Vec ℤ)) → i < length ts → x ≡ get_or ts i x → Some late ≡ first_beyond m (k + 1) (map child_line (map placed_of (vec_items x.children))) → first_beyond m k (flat_map tile_lines (map tile_of (drop i ts))) ≡ Some late
 tile_late m k i late ts x l e h =
     ap (first_beyond m k) (tile_step m k i ts x l e) ∙ beyond_append m k (tile_lines (tile_of x)) _ ∙ ap (λ o. or_else o (first_beyond m (k + length (tile_lines (tile_of x))) (flat_map tile_lines (map tile_of (drop (i + 1) ts))))) (sym h)
 
-pub tile_fine : (m k i : ℕ) (ts : List Tile) (x : Tile) → i < length ts → x ≡ get_or ts i x → None ≡ first_beyond m (k + 1) (map child_line (map placed_of (vec_items x.children))) → first_beyond m k (flat_map tile_lines (map tile_of (drop i ts))) ≡ first_beyond m (k + (1 + length (vec_items x.children))) (flat_map tile_lines (map tile_of (drop (i + 1) ts)))
+pub tile_fine : (m k i : ℕ) (ts : List (Tile (Vec ℤ))) (x : Tile (Vec ℤ)) → i < length ts → x ≡ get_or ts i x → None ≡ first_beyond m (k + 1) (map child_line (map placed_of (vec_items x.children))) → first_beyond m k (flat_map tile_lines (map tile_of (drop i ts))) ≡ first_beyond m (k + (1 + length (vec_items x.children))) (flat_map tile_lines (map tile_of (drop (i + 1) ts)))
 tile_fine m k i ts x l e h =
     let b = length-map (map placed_of (vec_items x.children)) child_line in
     let c = length-map (vec_items x.children) placed_of in

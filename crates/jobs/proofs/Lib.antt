@@ -1,13 +1,15 @@
 pub mod Decodes
+pub mod Rowed
 pub mod Series
 pub mod Adds
 pub mod Shapes
 pub mod Runs
+pub mod Labelling
 pub mod Lates
 pub mod Verdicts
 pub mod Widths
-pub mod Picking
+pub mod Mapped
 pub mod Halts
-pub mod Writes
+pub mod Sheets
 pub mod Texts
 pub mod Wholes

@@ -5,7 +5,8 @@ use Rattle.std.proofs.lemmas.List.{length_push, length-map}
 use Rattle.exact.specs.JobNumbers.{JobNumbers, LabelNumbers, TileNumbers, PlacedNumbers, Part, Step}
 use Rattle.lines.specs.Letters.{Letter, letter_R, letter_I, letter_L, letter_S, letter_T, letter_C, letter_D, letter_P}
 use Rattle.lines.specs.Lines.{Line}
-use Rattle.jobs.specs.Limits.{Ring, most_labels, most_tiles, most_children, most_depth, most_seeds}
+use Rattle.job_rows.specs.Limits.{most_children}
+use Rattle.jobs.specs.Limits.{Ring, most_labels, most_tiles, most_depth, most_seeds}
 use Rattle.jobs.specs.Ranges.{Element, PlacedFits, SeedFits, SubdivisionFits, OutlineFits, TileFits, LabelFits, Shaped, kinds_of}
 use Rattle.jobs.specs.Spelled.{label_line, subdivision_line, child_line, seed_line, tile_lines, lines_of}
 use Rattle.jobs.specs.Fronts.{Head, Front, nothing, Takes, Steps, Leads, labelled, job_of, with_ring, with_label, with_subdivision, with_tile, with_child, with_depth, with_seed}

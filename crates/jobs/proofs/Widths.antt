@@ -3,6 +3,7 @@ use Rattle.std.proofs.Common.{◌≡◌, ℕ, suc, ◌+◌, ◌*◌, ◌<◌, �
 use Rattle.std.specs.List.{flat_map, AllByRecursion}
 use Rattle.std.proofs.lemmas.Fmt.{length-decimal-le}
 use Rattle.std.proofs.ByRecursion.{All-append, All-weaker}
+use Rattle.std.proofs.lemmas.Grind.{flat_map-append}
 use Rattle.std.proofs.lemmas.List.{length-append, length-map}
 use Rattle.exact.specs.JobNumbers.{JobNumbers, LabelNumbers, TileNumbers, PlacedNumbers, Part, Step}
 use Rattle.lines.specs.Letters.{letter_R, letter_I, letter_D}
@@ -41,12 +42,7 @@ length_line k l w =
     omega (arith, w.few)
 
 length_text : (ls ms : List Line) → length (text (ls ++ ms)) ≡ length (text ls) + length (text ms)
-length_text [] ms = omega arith
-length_text (l ∷ ls) ms =
-    let h = length_text ls ms in
-    let n = length-append (spelt l.letter l.numbers) (text (ls ++ ms)) in
-    let m = length-append (spelt l.letter l.numbers) (text ls) in
-    omega arith
+length_text ls ms = ap length (flat_map-append (λ (l : Line). spelt l.letter l.numbers) ls ms) ∙ length-append (text ls) (text ms)
 
 length_all : (k b : ℕ) (ls : List Line) → 2 + 4 * k ≤ b → AllByRecursion (Within k) ls → length (text ls) ≤ b * length ls
 length_all k b [] h a = omega arith

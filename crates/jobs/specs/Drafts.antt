@@ -1,22 +1,32 @@
 -- What a draft says, and what adding a line to it answers.
-use Rattle.std.specs.Prelude.{List, map, ℤ, Ok, Err, vec_items, Result}
+use Rattle.std.specs.Prelude.{Bool, List, map, ℤ, Ok, Err, vec_items, Result}
 use Rattle.lines.specs.Letters.{Letter}
+use Rattle.job_rows.specs.Shapes.{part_of}
 use Rattle.jobs.specs.declared.draft.Draft.{Draft}
+use Rattle.jobs.specs.declared.draft.Head.{Head as HeadRow}
 use Rattle.jobs.specs.declared.draft.Misfit.{Misfit}
 use Rattle.jobs.specs.declared.draft.Misfit.TheVariants.{Place as Misplaced, Numbers, Memory}
-use Rattle.jobs.specs.Fronts.{Front, Place, Takes}
-use Rattle.jobs.specs.Rows.{head_of, part_of, step_of, placed_of, tile_of}
+use Rattle.jobs.specs.Begun.{order_in, rank_in, factor_in, outline_in, children_in}
+use Rattle.jobs.specs.Fronts.{Front, Head, Place, Takes}
+use Rattle.jobs.specs.Rows.{placed_of, tile_of}
+
+abbrev pub head_of : HeadRow → Head
+head_of l = record { arrowed = l.arrowed; length = vec_items l.length }
+
+-- true for each arrowed label and false for each plain one
+abbrev pub arrows : List HeadRow → List Bool
+arrows ls = map (λ (l : HeadRow). l.arrowed) ls
 
 abbrev pub front : Draft → Front
 front d = record {
-  order = d.order;
-  rank = d.rank;
-  factor = vec_items d.factor;
-  heads = map head_of (vec_items d.labels);
+  order = order_in d.ring;
+  rank = rank_in d.ring;
+  factor = factor_in d.factor;
+  heads = map head_of (vec_items d.heads);
   subdivisions = map (λ v. map part_of (vec_items v)) (vec_items d.subdivisions);
   tiles = map tile_of (vec_items d.tiles);
-  outline = map step_of (vec_items d.outline);
-  children = map placed_of (vec_items d.children);
+  outline = outline_in d.begun;
+  children = children_in d.begun;
   depth = d.depth;
   seeds = map placed_of (vec_items d.seeds);
 }

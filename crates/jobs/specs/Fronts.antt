@@ -5,7 +5,8 @@ use Rattle.std.specs.List.{flat_map}
 use Rattle.exact.specs.JobNumbers.{JobNumbers, LabelNumbers, TileNumbers, PlacedNumbers, Part, Step}
 use Rattle.lines.specs.Letters.{Letter, letter_R, letter_I, letter_L, letter_S, letter_T, letter_C, letter_D, letter_P}
 use Rattle.lines.specs.Lines.{Line}
-use Rattle.jobs.specs.Limits.{Ring, most_labels, most_tiles, most_children, most_depth, most_seeds}
+use Rattle.job_rows.specs.Limits.{most_children}
+use Rattle.jobs.specs.Limits.{Ring, most_labels, most_tiles, most_depth, most_seeds}
 use Rattle.jobs.specs.Ranges.{Element, PlacedFits, SeedFits, SubdivisionFits, OutlineFits}
 use Rattle.jobs.specs.Spelled.{label_numbers, part_numbers, step_numbers, placed_numbers}
 

@@ -1,13 +1,16 @@
 pub mod Limits
+pub mod Rings
 pub mod Ranges
 pub mod Spelled
 pub mod Fronts
 pub mod Refusals
 pub mod Rows
+pub mod Begun
 pub mod Drafts
 pub mod Faults
 pub mod Jobs
 pub mod Turns
 pub mod OneText
-pub mod Puts
 pub mod RowTexts
+pub mod Puts
+pub mod RowLists

@@ -12,23 +12,12 @@ most_size = 32
 abbrev pub most_labels : ℕ
 most_labels = 8
 
--- labels in a subdivision
-abbrev pub most_parts : ℕ
-most_parts = 8
-
--- steps of an outline
+-- steps of an outline. (The most steps, parts and children stand in the types of rows.)
 abbrev pub least_steps : ℕ
 least_steps = 3
 
-abbrev pub most_steps : ℕ
-most_steps = 12
-
 abbrev pub most_tiles : ℕ
 most_tiles = 8
-
--- children of one tile
-abbrev pub most_children : ℕ
-most_children = 16
 
 abbrev pub most_depth : ℕ
 most_depth = 12

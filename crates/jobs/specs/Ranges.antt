@@ -2,7 +2,8 @@
 use Rattle.std.specs.Prelude.{◌≡◌, ℕ, ◌<◌, ◌≤◌, Bool, true, false, List, map, length, ℤ, slice_index_or, unsigned_abs}
 use Rattle.std.specs.List.{AllByRecursion}
 use Rattle.exact.specs.JobNumbers.{JobNumbers, LabelNumbers, TileNumbers, PlacedNumbers, Part, Step}
-use Rattle.jobs.specs.Limits.{Ring, most_size, most_labels, most_parts, least_steps, most_steps, most_tiles, most_children, most_depth, most_seeds}
+use Rattle.job_rows.specs.Limits.{most_parts, most_steps, most_children}
+use Rattle.jobs.specs.Limits.{Ring, most_size, most_labels, least_steps, most_tiles, most_depth, most_seeds}
 
 -- an element of a ring of rank d: d coefficients, none above the limit in size
 abbrev pub Coefficient : ℤ → Type 0

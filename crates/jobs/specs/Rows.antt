@@ -1,24 +1,21 @@
 -- The numbers that the rows of a job hold.
-use Rattle.std.specs.Prelude.{map, vec_items}
-use Rattle.exact.specs.JobNumbers.{Part, Step, PlacedNumbers, TileNumbers}
-use Rattle.jobs.specs.declared.rows.Label.{Label}
-use Rattle.job_rows.specs.declared.Part.{Part as PartRow}
-use Rattle.job_rows.specs.declared.Step.{Step as StepRow}
-use Rattle.jobs.specs.declared.rows.Placed.{Placed}
-use Rattle.jobs.specs.declared.rows.Tile.{Tile}
-use Rattle.jobs.specs.Fronts.{Head}
+use Rattle.std.specs.Prelude.{List, ℤ, vec_items}
+use Rattle.std.specs.Global.{Vec}
+use Rattle.exact.specs.JobNumbers.{LabelNumbers, PlacedNumbers, TileNumbers}
+use Rattle.job_rows.specs.declared.Label.{Label}
+use Rattle.job_rows.specs.declared.Placed.{Placed}
+use Rattle.job_rows.specs.declared.Tile.{Tile}
+use Rattle.job_rows.specs.Shapes.{label_with, placed_with, tile_with}
 
-abbrev pub head_of : Label → Head
-head_of l = record { arrowed = l.arrowed; length = vec_items l.length }
+-- an element is a list of coefficients
+abbrev pub listed : Vec ℤ → List ℤ
+listed v = vec_items v
 
-abbrev pub part_of : PartRow → Part
-part_of p = record { label = p.label; forward = p.forward }
+abbrev pub label_of : Label (Vec ℤ) → LabelNumbers
+label_of l = label_with listed l
 
-abbrev pub step_of : StepRow → Step
-step_of s = record { label = s.label; forward = s.forward; direction = s.direction }
+abbrev pub placed_of : Placed (Vec ℤ) → PlacedNumbers
+placed_of p = placed_with listed p
 
-abbrev pub placed_of : Placed → PlacedNumbers
-placed_of p = record { tile = p.tile; turn = p.turn; mirrored = p.mirrored; place = vec_items p.place }
-
-abbrev pub tile_of : Tile → TileNumbers
-tile_of t = record { outline = map step_of (vec_items t.outline); children = map placed_of (vec_items t.children) }
+abbrev pub tile_of : Tile (Vec ℤ) → TileNumbers
+tile_of t = tile_with listed t

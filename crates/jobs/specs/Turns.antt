@@ -2,9 +2,9 @@
 use Rattle.std.specs.Prelude.{◌≡◌, ℕ, ◌+◌, List, [], length, ℤ, IfSome}
 use Rattle.lines.specs.Letters.{Letter}
 use Rattle.lines.specs.Lines.{Line, FirstLine}
-use Rattle.lines.specs.declared.Misread.{Misread}
-use Rattle.lines.specs.declared.Misread.TheVariants.{Misspelt as Garbled, Memory as Unread}
-use Rattle.jobs.specs.declared.draft.Misfit.{Misfit}
+use Rattle.lines.specs.declared.Misread.TheVariants.{Misspelt as Garbled, Memory as NoneLeft}
+use Rattle.jobs.specs.declared.reading.LineFault.{LineFault}
+use Rattle.jobs.specs.declared.reading.LineFault.TheVariants.{Unread, Unadded}
 use Rattle.jobs.specs.declared.draft.Misfit.TheVariants.{Place as NoPlace, Numbers, Memory as NoRoom}
 use Rattle.faults.specs.declared.TextFault.{TextFault}
 use Rattle.faults.specs.declared.TextFault.TheVariants.{Misspelt, Misplaced, Unfit, Memory}
@@ -24,11 +24,10 @@ Halted t f line e = (before : List Line) → line ≡ length before + 1 → IfSo
 abbrev pub ReadUp : List ℕ → Front → Type 0
 ReadUp t f = ((before : List Line) × At t before f []) × Complete f
 
-abbrev pub misfit_told : Misfit → ℕ → TextFault
-misfit_told NoPlace line = Misplaced line
-misfit_told Numbers line = Unfit line
-misfit_told NoRoom line = Memory
-
-abbrev pub misread_told : Misread → ℕ → TextFault
-misread_told Garbled line = Misspelt line
-misread_told Unread line = Memory
+-- the fault of a text whose line has the fault e
+abbrev pub fault_at : LineFault → ℕ → TextFault
+fault_at (Unread Garbled) line = Misspelt line
+fault_at (Unread NoneLeft) line = Memory
+fault_at (Unadded NoPlace) line = Misplaced line
+fault_at (Unadded Numbers) line = Unfit line
+fault_at (Unadded NoRoom) line = Memory

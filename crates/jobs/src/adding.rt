@@ -1,5 +1,7 @@
-// One line more: each letter where it has its place, with numbers that fit.
-ghost use Rattle.std.specs.Prelude.{◌≡◌, Decides, MatchResult};
+// One line more: each letter where it has its place, with numbers that fit. (Functions and no methods of the draft: one for each letter,
+// as those beside them that decode the numbers.)
+ghost use Rattle.std.specs.Prelude.{◌≡◌, ◌<◌, Decides, MatchResult, length};
+ghost use Rattle.jobs.specs.Begun.{children_in};
 ghost use Rattle.jobs.specs.declared.draft.Misfit.TheVariants.{Memory};
 ghost use Rattle.lines.specs.Letters.{letter, letter_R, letter_I, letter_L, letter_S, letter_T, letter_C, letter_D, letter_P};
 ghost use Rattle.jobs.specs.Drafts.{front, Added};
@@ -11,56 +13,49 @@ use crate::limits::{MOST_CHILDREN, MOST_LABELS, MOST_SEEDS, MOST_TILES};
 use crate::rows::Tile;
 use lines::Kind;
 use std::alloc::Global;
-use std::mem;
 
 fn add_ring(draft: &mut Draft, ns: &[i64]) -> Result<(), Misfit>
     ensures { Added (front draft.old) letter_R ns.now result (front draft.new) }
 {
-    if draft.order != 0 {
+    if draft.ring.is_some() {
         return Err(Misfit::Place);
     }
-    let Some((order, rank)) = decoding::ring(ns) else {
-        return Err(Misfit::Numbers);
-    };
-    draft.order = order;
-    draft.rank = rank;
+    draft.ring = Some(decoding::ring(ns).ok_or(Misfit::Numbers)?);
     Ok(())
 }
 
-fn add_factor(draft: &mut Draft, ns: &[i64]) -> Result<(), Misfit>
+fn add_factor(heap: Global, draft: &mut Draft, ns: &[i64]) -> Result<(), Misfit>
     ensures { Added (front draft.old) letter_I ns.now result (front draft.new) }
 {
-    if draft.order == 0 || draft.factor.len() > 0 {
+    let ring = draft.ring.ok_or(Misfit::Place)?;
+    if draft.factor.is_some() {
         return Err(Misfit::Place);
     }
-    if !decoding::is_element(ns, draft.rank) {
-        return Err(Misfit::Numbers);
-    }
-    draft.factor.extend_from_slice(ns)?;
+    draft.factor = Some(decoding::element(heap, ns, ring.rank())?);
     Ok(())
 }
 
 fn add_label(heap: Global, draft: &mut Draft, ns: &[i64]) -> Result<(), Misfit>
     ensures { Added (front draft.old) letter_L ns.now result (front draft.new) }
 {
-    if draft.factor.len() == 0
-        || draft.subdivisions.len() > 0
-        || draft.labels.len() >= MOST_LABELS
+    if draft.factor.is_none()
+        || !draft.subdivisions.is_empty()
+        || draft.heads.len() >= MOST_LABELS
     {
         return Err(Misfit::Place);
     }
-    let label = decoding::label(heap, ns, draft.rank)?;
-    draft.labels.push(label)?;
+    let head = decoding::label(heap, ns, draft.rank())?;
+    draft.heads.push(head)?;
     Ok(())
 }
 
 fn add_subdivision(heap: Global, draft: &mut Draft, ns: &[i64]) -> Result<(), Misfit>
     ensures { Added (front draft.old) letter_S ns.now result (front draft.new) }
 {
-    if draft.subdivisions.len() >= draft.labels.len() {
+    if draft.subdivisions.len() >= draft.heads.len() {
         return Err(Misfit::Place);
     }
-    let parts = decoding::parts(heap, ns, draft.labels.as_slice())?;
+    let parts = decoding::parts(heap, ns, draft.heads.as_slice())?;
     draft.subdivisions.push(parts)?;
     Ok(())
 }
@@ -68,11 +63,14 @@ fn add_subdivision(heap: Global, draft: &mut Draft, ns: &[i64]) -> Result<(), Mi
 fn add_child(heap: Global, draft: &mut Draft, ns: &[i64]) -> Result<(), Misfit>
     ensures { Added (front draft.old) letter_C ns.now result (front draft.new) }
 {
-    if draft.outline.len() == 0 || draft.children.len() >= MOST_CHILDREN {
+    // Taken out and put back. (Tried by `as_mut`: what the draft holds at the end of that borrow was not proved.)
+    let mut tile = draft.begun.take().ok_or(Misfit::Place)?;
+    if tile.children.len() >= MOST_CHILDREN {
         return Err(Misfit::Place);
     }
-    let child = decoding::placed(heap, ns, draft.order, draft.rank)?;
-    draft.children.push(child)?;
+    let child = decoding::placed(heap, ns, draft.order(), draft.rank())?;
+    tile.children.push(child)?;
+    draft.begun = Some(tile);
     Ok(())
 }
 
@@ -82,7 +80,7 @@ fn add_seed(heap: Global, draft: &mut Draft, ns: &[i64]) -> Result<(), Misfit>
     if draft.depth.is_none() || draft.seeds.len() >= MOST_SEEDS {
         return Err(Misfit::Place);
     }
-    let seed = decoding::placed(heap, ns, draft.order, draft.rank)?;
+    let seed = decoding::placed(heap, ns, draft.order(), draft.rank())?;
     if seed.tile >= draft.tiles.len() {
         return Err(Misfit::Numbers);
     }
@@ -90,36 +88,35 @@ fn add_seed(heap: Global, draft: &mut Draft, ns: &[i64]) -> Result<(), Misfit>
     Ok(())
 }
 
-// Whether a T line may come: each label has its subdivision, and it is the first tile or the open one has a child.
+// Whether there is a tile that is begun, and it has a child.
+fn has_child(begun: &Option<Tile>) -> bool
+    ensures { Decides result (0 < length (children_in begun.now)) }
+{
+    begun.as_ref().is_some_and(|tile| !tile.children.is_empty())
+}
+
+// Whether a T line may come: each label has its subdivision, and it is the first tile or the one that is begun has a child.
 fn tile_has_place(draft: &Draft) -> bool
     ensures { Decides result (Place (front draft.now) letter_T) }
 {
-    let labels = draft.labels.len();
-    let subdivisions = draft.subdivisions.len();
-    if labels == 0 || subdivisions != labels {
+    let labels = draft.heads.len();
+    if labels == 0 || draft.subdivisions.len() != labels {
         return false;
     }
     let tiles = draft.tiles.len();
-    let outline = draft.outline.len();
-    if outline == 0 && tiles == 0 {
+    if draft.begun.is_none() && tiles == 0 {
         return true;
     }
-    if draft.children.len() == 0 {
-        return false;
-    }
-    tiles < MOST_TILES - 1
+    has_child(&draft.begun) && tiles < MOST_TILES - 1
 }
 
-// The open tile, if there is one, joins the tiles.
-fn close_tile(heap: Global, draft: &mut Draft) -> Result<(), Misfit>
+// The tile that is begun, if there is one, joins the tiles.
+fn close_tile(draft: &mut Draft) -> Result<(), Misfit>
     ensures { MatchResult result (λ _. front draft.new ≡ closed (front draft.old)) (λ e. e ≡ Memory) }
 {
-    let outline = mem::replace(&mut draft.outline, Vec::new(heap));
-    let children = mem::replace(&mut draft.children, Vec::new(heap));
-    if outline.len() == 0 {
-        return Ok(());
+    if let Some(tile) = draft.begun.take() {
+        draft.tiles.push(tile)?;
     }
-    draft.tiles.push(Tile { outline, children })?;
     Ok(())
 }
 
@@ -129,22 +126,21 @@ fn add_tile(heap: Global, draft: &mut Draft, ns: &[i64]) -> Result<(), Misfit>
     if !tile_has_place(draft) {
         return Err(Misfit::Place);
     }
-    let outline = decoding::steps(heap, ns, draft.labels.as_slice(), draft.order)?;
-    close_tile(heap, draft)?;
-    draft.outline = outline;
+    let outline = decoding::steps(heap, ns, draft.heads.as_slice(), draft.order())?;
+    close_tile(draft)?;
+    let children = Vec::new(heap);
+    draft.begun = Some(Tile { outline, children });
     Ok(())
 }
 
-fn add_depth(heap: Global, draft: &mut Draft, ns: &[i64]) -> Result<(), Misfit>
+fn add_depth(draft: &mut Draft, ns: &[i64]) -> Result<(), Misfit>
     ensures { Added (front draft.old) letter_D ns.now result (front draft.new) }
 {
-    if draft.children.len() == 0 {
+    if !has_child(&draft.begun) {
         return Err(Misfit::Place);
     }
-    let Some(depth) = decoding::depth(ns) else {
-        return Err(Misfit::Numbers);
-    };
-    close_tile(heap, draft)?;
+    let depth = decoding::depth(ns).ok_or(Misfit::Numbers)?;
+    close_tile(draft)?;
     draft.depth = Some(depth);
     Ok(())
 }
@@ -160,12 +156,12 @@ pub(crate) fn add_line(
 {
     match kind {
         Kind::Ring(_) => add_ring(draft, ns),
-        Kind::Factor(_) => add_factor(draft, ns),
+        Kind::Factor(_) => add_factor(heap, draft, ns),
         Kind::Label(_) => add_label(heap, draft, ns),
         Kind::Subdivision(_) => add_subdivision(heap, draft, ns),
         Kind::Tile(_) => add_tile(heap, draft, ns),
         Kind::Child(_) => add_child(heap, draft, ns),
-        Kind::Depth(_) => add_depth(heap, draft, ns),
+        Kind::Depth(_) => add_depth(draft, ns),
         Kind::Seed(_) => add_seed(heap, draft, ns),
     }
 }

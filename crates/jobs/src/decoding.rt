@@ -1,33 +1,36 @@
 // The numbers of a line, read as what the line says.
-ghost use Rattle.std.specs.Prelude.{◌≡◌, ℕ, ◌<◌, ◌≤◌, Bool, List, [], ◌∷◌, ◌++◌, map, length, drop, ℤ, pos, Decides, MatchOption, MatchResult, ◌≢◌};
+ghost use Rattle.std.specs.Prelude.{◌≡◌, ℕ, ◌^◌, ◌<◌, ◌≤◌, Bool, List, [], ◌∷◌, map, length, ℤ, pos, Decides, MatchOption, MatchResult, ◌≢◌};
 ghost use Rattle.exact.specs.JobNumbers.{PlacedNumbers, Part as PartNumbers, Step as StepNumbers};
 ghost use Rattle.std.specs.List.{flat_map};
-ghost use Rattle.jobs.specs.Drafts.{Unfit};
-ghost use Rattle.jobs.specs.Limits.{Ring, most_depth};
+ghost use Rattle.std.specs.Fn.{FnReturnsAt};
+ghost use Rattle.jobs.specs.Drafts.{Unfit, arrows};
+ghost use Rattle.jobs.specs.Limits.{most_depth};
+ghost use Rattle.jobs.specs.Rings.{order_of};
+ghost use Rattle.jobs.specs.declared.ring.NamedRing.{NamedRing};
 ghost use Rattle.jobs.specs.Ranges.{Element, Sensed, PartFits, StepFits, PlacedFits, SubdivisionFits, OutlineFits};
-ghost use Rattle.jobs.specs.Rows.{part_of, step_of, placed_of};
+ghost use Rattle.jobs.specs.RowLists.{RowsSay, NoRows};
+ghost use Rattle.job_rows.specs.Shapes.{part_of, step_of};
+ghost use Rattle.jobs.specs.Rows.{placed_of};
 ghost use Rattle.jobs.specs.Spelled.{mark, label_numbers, part_numbers, step_numbers, placed_numbers};
 
-use crate::draft::Misfit;
+use crate::draft::{Head, Misfit};
 use crate::limits::{LEAST_STEPS, MOST_DEPTH, MOST_PARTS, MOST_SIZE, MOST_STEPS};
-use crate::rows::{Label, Part, Placed, Step};
+use crate::ring::NamedRing;
+use crate::rows::{Part, Placed, Step};
 use std::alloc::Global;
 
-// The ring's order and rank.
-pub(crate) fn ring(ns: &[i64]) -> Option<(u32, usize)>
-    ensures { MatchOption result ((n d : ℕ) → Ring n d → ns.now ≢ pos n ∷ []) (λ p. Ring p.0 p.1 × (ns.now ≡ pos p.0 ∷ [])) }
+// The ring of an R line. (A pattern and no `TryFrom`: it judges how many numbers there are, too.)
+pub(crate) fn ring(ns: &[i64]) -> Option<NamedRing>
+    ensures { MatchOption result ((r : NamedRing) → ns.now ≢ pos (order_of r) ∷ []) (λ r. ns.now ≡ pos (order_of r) ∷ []) }
 {
-    if ns.len() != 1 {
-        return None;
-    }
-    match ns[0] {
-        4 => Some((4, 2)),
-        10 => Some((10, 4)),
+    match ns {
+        [4] => Some(NamedRing::Gaussian),
+        [10] => Some(NamedRing::Tenfold),
         _ => None,
     }
 }
 
-// A mark: 1 for true, 0 for false.
+// A mark: 1 for true, 0 for false. (No `TryFrom` makes a `bool` of a number.)
 fn flag(z: i64) -> Option<bool>
     ensures { MatchOption result ((b : Bool) → z ≢ mark b) (λ b. z ≡ mark b) }
 {
@@ -38,42 +41,21 @@ fn flag(z: i64) -> Option<bool>
     }
 }
 
-// An index, however large.
-fn index(z: i64) -> Option<usize>
-    ensures { MatchOption result ((n : ℕ) → z ≢ pos n) (λ n. z ≡ pos n) }
-{
-    if z < 0 {
-        return None;
-    }
-    Some(z as usize)
-}
-
 // A number below the limit.
 fn below(z: i64, limit: u32) -> Option<u32>
     ensures { MatchOption result ((n : ℕ) → n < limit → z ≢ pos n) (λ n. (n < limit) × (z ≡ pos n)) }
 {
-    if z < 0 || z >= i64::from(limit) {
-        return None;
-    }
-    Some(z as u32)
+    u32::try_from(z).ok().filter(|n| *n < limit)
 }
 
 // Whether the numbers are an element of a ring of this rank.
 pub(crate) fn is_element(ns: &[i64], rank: usize) -> bool
     ensures { Decides result (Element rank ns.now) }
 {
-    if ns.len() != rank {
-        return false;
-    }
-    for z in ns {
-        if *z < -MOST_SIZE || *z > MOST_SIZE {
-            return false;
-        }
-    }
-    true
+    ns.len() == rank && ns.iter().all(|z| z.unsigned_abs() <= MOST_SIZE)
 }
 
-fn element(heap: Global, ns: &[i64], rank: usize) -> Result<Vec<i64>, Misfit>
+pub(crate) fn element(heap: Global, ns: &[i64], rank: usize) -> Result<Vec<i64>, Misfit>
     ensures { MatchResult result (λ v. Element rank v.items × (ns.now ≡ v.items)) (Unfit (Element rank ns.now → ⊥)) }
 {
     if !is_element(ns, rank) {
@@ -83,76 +65,76 @@ fn element(heap: Global, ns: &[i64], rank: usize) -> Result<Vec<i64>, Misfit>
 }
 
 // Whether the label is there, and takes the sense.
-fn takes_sense(labels: &[Label], label: usize, forward: bool) -> bool
-    ensures { Decides result (Sensed (map (λ l. l.arrowed) labels.now) label forward) }
+fn takes_sense(labels: &[Head], label: usize, forward: bool) -> bool
+    ensures { Decides result (Sensed (arrows labels.now) label forward) }
 {
-    if label >= labels.len() {
-        return false;
-    }
-    forward || labels[label].arrowed
+    labels.get(label).is_some_and(|l| forward || l.arrowed)
 }
 
 // An L line: the mark for arrowed, then the length.
-pub(crate) fn label(heap: Global, ns: &[i64], rank: usize) -> Result<Label, Misfit>
+pub(crate) fn label(heap: Global, ns: &[i64], rank: usize) -> Result<Head, Misfit>
     ensures { MatchResult result (λ l. Element rank l.length.items × (ns.now ≡ label_numbers l.arrowed l.length.items)) (Unfit ((b : Bool) (zs : List ℤ) → Element rank zs → ns.now ≢ label_numbers b zs)) }
 {
-    if ns.len() == 0 {
-        return Err(Misfit::Numbers);
-    }
-    let Some(arrowed) = flag(ns[0]) else {
-        return Err(Misfit::Numbers);
-    };
-    let length = element(heap, &ns[1..], rank)?;
-    Ok(Label { arrowed, length })
+    let (arrowed, length) = ns.split_first().ok_or(Misfit::Numbers)?;
+    let arrowed = flag(*arrowed).ok_or(Misfit::Numbers)?;
+    let length = element(heap, length, rank)?;
+    Ok(Head { arrowed, length })
 }
 
-// A label with its sense.
-fn part(ns: &[i64], labels: &[Label]) -> Option<Part>
-    requires { 2 ≤ length ns.now }
-    ensures { MatchOption result ((p : PartNumbers) (more : List ℤ) → PartFits (map (λ l. l.arrowed) labels.now) p → ns.now ≢ part_numbers p ++ more) (λ p. PartFits (map (λ l. l.arrowed) labels.now) (part_of p) × (ns.now ≡ part_numbers (part_of p) ++ drop 2 ns.now)) }
+// Rows of N numbers, each read as a value, and no number after them.
+fn rows<const N: usize, R: Drop, F: Fn(&[i64]) -> Option<R>>(
+    heap: Global,
+    ns: &[i64],
+    read: F,
+) -> Result<Vec<R>, Misfit>
+    requires width { (0 < N) × (N < 2 ^ 32) }
+    requires callable { F.IsAlwaysCallable read }
+    ensures { MatchResult result (λ v. RowsSay N (λ row r. FnReturnsAt F.Fn read row r) ns.now v.items) (Unfit (NoRows N (λ row r. FnReturnsAt F.Fn read row r) ns.now)) }
 {
-    let label = index(ns[0])?;
-    let forward = flag(ns[1])?;
-    if !takes_sense(labels, label, forward) {
-        return None;
-    }
-    Some(Part { label, forward })
-}
-
-// An S line: pairs of a label and a sense.
-pub(crate) fn parts(heap: Global, ns: &[i64], labels: &[Label]) -> Result<Vec<Part>, Misfit>
-    ensures { MatchResult result (λ v. SubdivisionFits (map (λ l. l.arrowed) labels.now) (map part_of v.items) × (ns.now ≡ flat_map part_numbers (map part_of v.items))) (Unfit ((ps : List PartNumbers) → SubdivisionFits (map (λ l. l.arrowed) labels.now) ps → ns.now ≢ flat_map part_numbers ps)) }
-{
-    if ns.len() == 0 || ns.len() > 2 * MOST_PARTS {
+    let (rows, rest) = ns.as_chunks::<N>();
+    if !rest.is_empty() {
         return Err(Misfit::Numbers);
     }
     let mut found = Vec::new(heap);
-    let mut rest = ns;
-    while rest.len() > 0 {
-        if rest.len() < 2 {
-            return Err(Misfit::Numbers);
-        }
-        let Some(part) = part(rest, labels) else {
-            return Err(Misfit::Numbers);
-        };
-        found.push(part)?;
-        rest = &rest[2..];
+    for row in rows {
+        found.push(read(row).ok_or(Misfit::Numbers)?)?;
     }
     Ok(found)
 }
 
-// A label with its sense and a direction.
-fn step(ns: &[i64], labels: &[Label], order: u32) -> Option<Step>
-    requires { 3 ≤ length ns.now }
-    ensures { MatchOption result ((s : StepNumbers) (more : List ℤ) → StepFits (map (λ l. l.arrowed) labels.now) order s → ns.now ≢ step_numbers s ++ more) (λ s. StepFits (map (λ l. l.arrowed) labels.now) order (step_of s) × (ns.now ≡ step_numbers (step_of s) ++ drop 3 ns.now)) }
+// A label with its sense.
+fn part(row: &[i64], labels: &[Head]) -> Option<Part>
+    ensures { MatchOption result ((p : PartNumbers) → PartFits (arrows labels.now) p → row.now ≢ part_numbers p) (λ p. PartFits (arrows labels.now) (part_of p) × (row.now ≡ part_numbers (part_of p))) }
 {
-    let label = index(ns[0])?;
-    let forward = flag(ns[1])?;
-    let direction = below(ns[2], order)?;
-    if !takes_sense(labels, label, forward) {
+    let [label, forward] = row else {
         return None;
+    };
+    let label = usize::try_from(*label).ok()?;
+    let forward = flag(*forward)?;
+    takes_sense(labels, label, forward).then_some(Part { label, forward })
+}
+
+// An S line: pairs of a label and a sense.
+pub(crate) fn parts(heap: Global, ns: &[i64], labels: &[Head]) -> Result<Vec<Part>, Misfit>
+    ensures { MatchResult result (λ v. SubdivisionFits (arrows labels.now) (map part_of v.items) × (ns.now ≡ flat_map part_numbers (map part_of v.items))) (Unfit ((ps : List PartNumbers) → SubdivisionFits (arrows labels.now) ps → ns.now ≢ flat_map part_numbers ps)) }
+{
+    if ns.is_empty() || ns.len() > 2 * MOST_PARTS {
+        return Err(Misfit::Numbers);
     }
-    Some(Step {
+    rows::<2, Part, _>(heap, ns, |row: &[i64]| part(row, labels))
+}
+
+// A label with its sense and a direction. (Not one function with `part`: what they share is `takes_sense`.)
+fn step(row: &[i64], labels: &[Head], order: u32) -> Option<Step>
+    ensures { MatchOption result ((s : StepNumbers) → StepFits (arrows labels.now) order s → row.now ≢ step_numbers s) (λ s. StepFits (arrows labels.now) order (step_of s) × (row.now ≡ step_numbers (step_of s))) }
+{
+    let [label, forward, direction] = row else {
+        return None;
+    };
+    let label = usize::try_from(*label).ok()?;
+    let forward = flag(*forward)?;
+    let direction = below(*direction, order)?;
+    takes_sense(labels, label, forward).then_some(Step {
         label,
         forward,
         direction,
@@ -163,46 +145,28 @@ fn step(ns: &[i64], labels: &[Label], order: u32) -> Option<Step>
 pub(crate) fn steps(
     heap: Global,
     ns: &[i64],
-    labels: &[Label],
+    labels: &[Head],
     order: u32,
 ) -> Result<Vec<Step>, Misfit>
-    ensures { MatchResult result (λ v. OutlineFits (map (λ l. l.arrowed) labels.now) order (map step_of v.items) × (ns.now ≡ flat_map step_numbers (map step_of v.items))) (Unfit ((ss : List StepNumbers) → OutlineFits (map (λ l. l.arrowed) labels.now) order ss → ns.now ≢ flat_map step_numbers ss)) }
+    ensures { MatchResult result (λ v. OutlineFits (arrows labels.now) order (map step_of v.items) × (ns.now ≡ flat_map step_numbers (map step_of v.items))) (Unfit ((ss : List StepNumbers) → OutlineFits (arrows labels.now) order ss → ns.now ≢ flat_map step_numbers ss)) }
 {
     if ns.len() < 3 * LEAST_STEPS || ns.len() > 3 * MOST_STEPS {
         return Err(Misfit::Numbers);
     }
-    let mut found = Vec::new(heap);
-    let mut rest = ns;
-    while rest.len() > 0 {
-        if rest.len() < 3 {
-            return Err(Misfit::Numbers);
-        }
-        let Some(step) = step(rest, labels, order) else {
-            return Err(Misfit::Numbers);
-        };
-        found.push(step)?;
-        rest = &rest[3..];
-    }
-    Ok(found)
+    rows::<3, Step, _>(heap, ns, |row: &[i64]| step(row, labels, order))
 }
 
 // A C or a P line: tile, turn, mark for mirrored, then the place.
 pub(crate) fn placed(heap: Global, ns: &[i64], order: u32, rank: usize) -> Result<Placed, Misfit>
     ensures { MatchResult result (λ p. PlacedFits order rank (placed_of p) × (ns.now ≡ placed_numbers (placed_of p))) (Unfit ((p : PlacedNumbers) → PlacedFits order rank p → ns.now ≢ placed_numbers p)) }
 {
-    if ns.len() < 3 {
-        return Err(Misfit::Numbers);
-    }
-    let Some(tile) = index(ns[0]) else {
+    let [tile, turn, mirrored, place @ ..] = ns else {
         return Err(Misfit::Numbers);
     };
-    let Some(turn) = below(ns[1], order) else {
-        return Err(Misfit::Numbers);
-    };
-    let Some(mirrored) = flag(ns[2]) else {
-        return Err(Misfit::Numbers);
-    };
-    let place = element(heap, &ns[3..], rank)?;
+    let tile = usize::try_from(*tile).map_err(|_| Misfit::Numbers)?;
+    let turn = below(*turn, order).ok_or(Misfit::Numbers)?;
+    let mirrored = flag(*mirrored).ok_or(Misfit::Numbers)?;
+    let place = element(heap, place, rank)?;
     Ok(Placed {
         tile,
         turn,
@@ -215,8 +179,8 @@ pub(crate) fn placed(heap: Global, ns: &[i64], order: u32, rank: usize) -> Resul
 pub(crate) fn depth(ns: &[i64]) -> Option<u32>
     ensures { MatchOption result ((n : ℕ) → n ≤ most_depth → ns.now ≢ pos n ∷ []) (λ n. (n ≤ most_depth) × (ns.now ≡ pos n ∷ [])) }
 {
-    if ns.len() != 1 {
-        return None;
+    match ns {
+        [depth] => below(*depth, MOST_DEPTH + 1),
+        _ => None,
     }
-    below(ns[0], MOST_DEPTH + 1)
 }

@@ -1,25 +1,20 @@
 // A job, whose numbers are all in range.
-ghost use Rattle.std.specs.Prelude.{◌≤◌, map, length};
-ghost use Rattle.jobs.specs.Fronts.{numbers_of};
+ghost use Rattle.job_rows.specs.Shapes.{numbers_with};
 ghost use Rattle.jobs.specs.Ranges.{InRange};
-ghost use Rattle.jobs.specs.Rows.{head_of, part_of, placed_of, tile_of};
+ghost use Rattle.jobs.specs.Rings.{order_of, rank_of};
+ghost use Rattle.jobs.specs.Rows.{listed};
 
-use crate::rows::{Label, Part, Placed, Tile};
+use crate::ring::NamedRing;
+use crate::rows::{Book, Placed};
 
 mod access;
 mod write;
 
-// Label i has subdivision i.
 #[derive(Drop)]
 pub struct Job {
-    pub order: u32,
-    pub rank: usize,
-    pub factor: Vec<i64>,
-    pub labels: Vec<Label>,
-    pub subdivisions: Vec<Vec<Part>>,
-    pub tiles: Vec<Tile>,
+    pub ring: NamedRing,
+    pub book: Book,
     pub depth: u32,
     pub seeds: Vec<Placed>,
-    ghost paired: { length subdivisions.items ≤ length labels.items },
-    ghost in_range: { ∥ InRange (numbers_of order rank factor.items (map head_of labels.items) (map (λ v. map part_of v.items) subdivisions.items) (map tile_of tiles.items) depth (map placed_of seeds.items)) ∥₁ },
+    ghost in_range: { ∥ InRange (numbers_with listed (order_of ring) (rank_of ring) book depth seeds.items) ∥₁ },
 }

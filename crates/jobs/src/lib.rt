@@ -8,5 +8,6 @@ pub mod job;
 mod late;
 mod limits;
 pub mod reading;
+pub mod ring;
 pub mod rows;
 mod writing;

@@ -2,7 +2,7 @@
 // bytes of a text
 pub const MOST_BYTES: usize = 16384;
 // the size of a coefficient, either way
-pub const MOST_SIZE: i64 = 32;
+pub const MOST_SIZE: u64 = 32;
 
 pub const MOST_LABELS: usize = 8;
 // labels in a subdivision

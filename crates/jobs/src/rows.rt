@@ -1,26 +1,14 @@
-// The rows of a job: numbers only, with no meaning in a ring. A part is a label with a sense, in a subdivision; a step of
-// an outline has a direction too, in parts of a turn.
+// The rows of a job, whose elements are lists of coefficients: numbers only, with no meaning in a ring.
 pub use job_rows::{Part, Step};
 
-// An edge label: arrowed or plain, and its length as coefficients.
-#[derive(Drop)]
-pub struct Label {
-    pub arrowed: bool,
-    pub length: Vec<i64>,
-}
+// An edge label, with its length as coefficients and its subdivision.
+pub type Label = job_rows::Label<Vec<i64>>;
 
-// A tile turned, mirrored or not, and brought to a place: a child, or a seed tile.
-#[derive(Drop)]
-pub struct Placed {
-    pub tile: usize,
-    pub turn: u32,
-    pub mirrored: bool,
-    pub place: Vec<i64>,
-}
+// A child or a seed tile, with its place as coefficients.
+pub type Placed = job_rows::Placed<Vec<i64>>;
 
-// A tile: its outline, and the children that it is cut into when it is inflated.
-#[derive(Drop)]
-pub struct Tile {
-    pub outline: Vec<Step>,
-    pub children: Vec<Placed>,
-}
+// A tile with its outline and its children.
+pub type Tile = job_rows::Tile<Vec<i64>>;
+
+// The factor, the labels and the tiles.
+pub type Book = job_rows::Book<Vec<i64>>;

@@ -1,16 +1,14 @@
 -- Digits, numbers and their one spelling. Assumes nothing.
-use Rattle.std.proofs.Common.{◌≡◌, ℕ, suc, ◌+◌, ◌-◌, ◌*◌, ◌^◌, ◌<◌, ◌≤◌, List, [], ◌∷◌, ◌++◌, length, get_or, take, drop, ℤ, pos, negsuc, decimal, sym, refl, ap, ◌∙◌, subst, ⊎_elim, add-zero, pow-suc, add-one, arith}
-use native.Mathlib.Nat.{pow-le-pow_right}
+use Rattle.std.proofs.Common.{◌≡◌, ℕ, IsUtf8, Result, Ok, Err, None, MatchOption, MatchResult, suc, ◌^◌, ◌<◌, ◌≤◌, List, [], ◌∷◌, ◌++◌, length, get_or, take, drop, ℤ, pos, negsuc, decimal, sym, refl, ap, ◌∙◌, subst, ⊎_elim, add-zero, arith}
 use Rattle.std.specs.Str.Parse.{digits_value}
 use Rattle.std.specs.Int.{IsInRange}
-use Rattle.std.specs.Char.{digit_value}
+use Rattle.std.specs.Result.{result_ok, OkIff}
+use Rattle.std.proofs.lemmas.Str.{IsUtf8-from_ascii}
 use Rattle.std.proofs.lemmas.Fmt.{decimal-digits_value, digits_decimal, decimal_nonempty, length-decimal-le, first_decimal, decimal_digit, decimal_injective}
-use Rattle.std.proofs.lemmas.Int.Digits.{digits_value_more}
 use Rattle.std.proofs.lemmas.List.Prefix.{front_reads, front_rest, front_fits}
-use Rattle.std.proofs.lemmas.List.{drop_more, drop_all, get_or-drop, get_or-take, take-append-drop, length-take-le, length-append, take_at}
+use Rattle.std.proofs.lemmas.List.{get_or_past, drop_more, drop_all, get_or-drop, get_or-take, take-append-drop, length-take-le, length-append, take_at}
 use Rattle.std.proofs.lemmas.Str.Parse.{IsNumeralModel, numerals_by_value, tells_by_index, digits_value_short}
 use Rattle.std.proofs.lemmas.Bool.{cases_lt, cases_order, cases_eq}
-use Rattle.std.proofs.lemmas.Bool.Decides.{nat_tests}
 use Rattle.lines.specs.Spelling.{Few, Ends, Word, Plain, DigitsTo}
 
 abbrev pub AllDigits : List ℕ → Type 0
@@ -19,20 +17,25 @@ AllDigits ds = DigitsTo ds (length ds)
 pub own : IsNumeralModel AllDigits (digits_value 10)
 own = numerals_by_value AllDigits tells_by_index
 
-pub digit_is : (c : ℕ) → IsInRange 48 57 c → digit_value c ≡ c - 48
-digit_is c h = grind (arith, nat_tests)
+-- digits are text
+digits_utf8 : (ds : List ℕ) → AllDigits ds → IsUtf8 ds
+digits_utf8 ds all = IsUtf8-from_ascii ds (λ i. ⊎_elim (λ l. let d = all i l in omega arith) (λ g. omega (arith, get_or_past ds i 0 g)) (cases_lt i (length ds)))
 
--- one digit more
-pub value_step : (s : List ℕ) (i v : ℕ) → i < length s → IsInRange 48 57 (get_or s i 0) → v ≡ digits_value 10 (take i s) → v * 10 + (get_or s i 0 - 48) ≡ digits_value 10 (take (i + 1) s)
-value_step s i v l d e = let h = digit_is (get_or s i 0) d in let k = digits_value_more 10 s i l in cc
+pub always_text : {T E : Type 0} (Q : T → Type 0) (P : E → Type 0) (ds : List ℕ) (r : Result T E) → AllDigits ds → MatchResult r Q (λ e. (IsUtf8 ds → ⊥) × P e) → None ≡ result_ok r → ⊥
+always_text Q P ds (Ok s) all h e = cc
+always_text Q P ds (Err x) all h e = h.0 (digits_utf8 ds all)
 
-pub bound_step : (v d i : ℕ) → v < 10 ^ i → d < 10 → v * 10 + d < 10 ^ (i + 1)
-bound_step v d i l m = rw (add-one, pow-suc) (omega arith)
+pub few_small : (ds : List ℕ) → AllDigits ds → length ds ≤ 7 → digits_value 10 ds < 2 ^ 32
+few_small ds all few = omega (arith, digits_value_short own ds 7 all few)
 
-pub below_power : (v i : ℕ) → v < 10 ^ i → i ≤ 6 → v < 1_000_000
-below_power v i l h = let p : 10 ^ i ≤ 10 ^ 6 = pow-le-pow_right (omega arith) h in omega arith
+pub value_read : {E : Type 0} (ds : List ℕ) (r : Result ℕ E) → OkIff r ((0 < length ds) × (digits_value 10 ds < 2 ^ 32)) (digits_value 10 ds) → digits_value 10 ds < 2 ^ 32 → MatchOption (result_ok r) (length ds ≡ 0) (λ n. (0 < length ds) × (n ≡ digits_value 10 ds))
+value_read ds (Ok n) h small = (h.0.0, h.1)
+value_read ds (Err e) h small = ⊎_elim (λ n. n) (λ n. absurd (h (omega arith, small))) (cases_eq (length ds) 0)
 
-pub ends_drop : (s : List ℕ) (n : ℕ) → (n < length s → get_or s n 0 ≡ 32) → Ends (drop n s)
+pub front_first : (s ds : List ℕ) (n : ℕ) → ds ≡ take n s → 0 < n → get_or ds 0 0 ≡ get_or s 0 0
+front_first s ds n e l = ap (λ t. get_or t 0 0) e ∙ get_or-take n s 0 0 l
+
+ends_drop : (s : List ℕ) (n : ℕ) → (n < length s → get_or s n 0 ≡ 32) → Ends (drop n s)
 ends_drop s n h = ⊎_elim (λ l. subst Ends (sym (drop_more s n 0 l)) (h l)) (λ g. subst Ends (sym (drop_all n s g)) tt) (cases_lt n (length s))
 
 first_left : (l : List ℕ) → Ends l → 0 < length l → get_or l 0 0 ≡ 32
@@ -49,10 +52,7 @@ module _ (s : List ℕ) (n : ℕ) (within : n ≤ length s) (all : DigitsTo s n)
   taken : AllDigits (take n s)
   taken i l = let e = length-take-le n s within in let k : i < n = omega arith in rw get_or-take (all i k)
 
-  pub front_digits : n ≤ 7 → (length (take n s) ≤ 7) × AllDigits (take n s)
-  front_digits h = (let e = length-take-le n s within in omega arith, taken)
-
-  pub plain_front : 0 < n → n ≤ 7 → (get_or s 0 0 ≡ 48 → n ≡ 1) → (n < length s → get_or s n 0 ≡ 32) → Plain s (digits_value 10 (take n s)) (drop n s)
+  pub plain_front : 0 < n → n ≤ 7 → (get_or s 0 0 ≡ 48 → n ≡ 1) → Ends (drop n s) → Plain s (digits_value 10 (take n s)) (drop n s)
   plain_front some few lead stop =
       let e : length (take n s) ≡ n = length-take-le n s within in
       let v : digits_value 10 (take n s) < 10 ^ 7 = digits_value_short own (take n s) 7 taken (omega arith) in
@@ -61,7 +61,7 @@ module _ (s : List ℕ) (n : ℕ) (within : n ≤ length s) (all : DigitsTo s n)
       record {
         few = v;
         whole = sym (ap (λ l. l ++ drop n s) d ∙ take-append-drop n s);
-        ends = ends_drop s n stop;
+        ends = stop;
       }
 
   module _ (stops : n < length s → IsInRange 48 57 (get_or s n 0) → ⊥) (m : ℕ) (rest : List ℕ) (p : Plain s m rest) where
@@ -96,8 +96,8 @@ module _ (s : List ℕ) (n : ℕ) (within : n ≤ length s) (all : DigitsTo s n)
         (λ i. omega (arith, first_decimal m (omega arith) small))
         (cases_eq m 0)
 
-    pub run_stop : n < length s → get_or s n 0 ≡ 32
-    run_stop l = rw run_is (after_digits (omega (arith, run_is)))
+    pub run_stop : Ends (drop n s)
+    run_stop = ends_drop s n (λ l. rw run_is (after_digits (omega (arith, run_is))))
 
 -- a number at the front of s has the run of digits to itself
 module _ (s : List ℕ) (m : ℕ) (rest : List ℕ) (p : Plain s m rest) where

@@ -1,11 +1,11 @@
 -- A well spelt line at the front of a text: it is the only one, and how it is told.
-use Rattle.std.proofs.Common.{◌≡◌, ℕ, suc, ◌<◌, cond, eqb, List, [], ◌∷◌, ◌++◌, length, get_or, ℤ, pos, negsuc, decimal, sym, refl, ap, ◌∙◌, append_assoc, arith}
+use Rattle.std.proofs.Common.{◌≡◌, ℕ, suc, ◌<◌, cond, eqb, List, [], ◌∷◌, ◌++◌, length, ℤ, pos, negsuc, decimal, sym, refl, ap, ◌∙◌, append_assoc, arith}
 use Rattle.std.specs.List.{flat_map, AllByRecursion}
 use Rattle.std.proofs.lemmas.Fmt.{digits_decimal}
 use Rattle.std.proofs.ByRecursion.{All-append, All-from_get_or}
 use Rattle.std.proofs.lemmas.List.{length-append}
 use Rattle.lines.specs.declared.Kind.{Kind}
-use Rattle.lines.specs.Letters.{Letter, letter_R, letter_I, letter_L, letter_S, letter_T, letter_C, letter_D, letter_P, letter, byte, after, Lettered}
+use Rattle.lines.specs.Letters.{Letter, letter_R, letter_I, letter_L, letter_S, letter_T, letter_C, letter_D, letter_P, letter, byte, after}
 use Rattle.lines.specs.Lines.{Inside, Cut, Line, spelt, text, WellSpelt, FirstLine}
 use Rattle.lines.specs.Spelling.{Few, Short, word, Words}
 use Rattle.lines.proofs.Decimal.{own, word_unique}
@@ -61,13 +61,6 @@ of_byte_byte letter_P = refl
 
 pub byte_inj : (a b : Letter) → byte a ≡ byte b → a ≡ b
 byte_inj a b e = sym (of_byte_byte a) ∙ ap of_byte e ∙ of_byte_byte b
-
--- a line whose first byte is none of the eight
-pub unlettered : (bs : List ℕ) → 0 < length bs → ((a : Letter) → get_or bs 0 0 ≡ byte a → ⊥) → Lettered bs → ⊥
-unlettered bs some none (a, rest, e) = none a (ap (λ t. get_or t 0 0) e)
-
-pub unlettered_nil : (bs : List ℕ) → length bs ≡ 0 → Lettered bs → ⊥
-unlettered_nil bs none (a, rest, e) = let h = ap length e in omega arith
 
 pub spelt_cut : (t : List ℕ) (a : Letter) (zs : List ℤ) (rest : List ℕ) → t ≡ spelt a zs ++ rest → t ≡ (byte a ∷ flat_map word zs) ++ 10 ∷ rest
 spelt_cut t a zs rest e = e ∙ ap (λ l. byte a ∷ l) (append_assoc (flat_map word zs) (10 ∷ []) rest)

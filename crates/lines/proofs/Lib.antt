@@ -1,4 +1,5 @@
 pub mod Cutting
 pub mod Decimal
 pub mod Fronted
+pub mod Offered
 pub mod Sequence

@@ -1,12 +1,12 @@
 // The lines of a text: each a letter, then numbers after single spaces, then a line feed.
 #![tactic(auto)]
 
-ghost use Rattle.std.specs.Prelude.{◌≡◌, ℕ, ◌<◌, ◌≤◌, List, ◌∷◌, ◌++◌, length, ℤ, MatchOption, MatchResult, ◌≢◌, slice_index};
+ghost use Rattle.std.specs.Prelude.{◌≡◌, ℕ, ◌<◌, ◌≤◌, ◌==◌, List, ◌∷◌, ◌++◌, length, position, ℤ, Decides, MatchOption, MatchResult, ◌≢◌, slice_index};
 ghost use Rattle.std.specs.Str.Parse.{digits_value};
 ghost use Rattle.std.specs.Int.{IsInRange};
 ghost use Rattle.lines.specs.Letters.{Letter, Lettered, letter, byte, after};
 ghost use Rattle.lines.specs.Lines.{Cut, FirstLine};
-ghost use Rattle.lines.specs.Spelling.{Word, Words, Plain, DigitsTo};
+ghost use Rattle.lines.specs.Spelling.{Word, Words, Plain, Ends, DigitsTo};
 ghost use Rattle.lines.specs.declared.Misread.TheVariants.{Misspelt, Memory};
 
 use std::alloc::{AllocFailed, Global};
@@ -20,60 +20,44 @@ fn digit_run(s: &[u8]) -> usize
     ensures all { DigitsTo s.now result }
     ensures stops { result < length s.now → IsInRange 48 57 (slice_index s.now result) → ⊥ }
 {
-    for (i, b) in s.iter().enumerate() {
-        if *b < b'0' || *b > b'9' {
-            return i;
-        }
-    }
-    s.len()
+    s.iter().take_while(|b| b.is_ascii_digit()).count()
 }
 
-// The number that a few digits write.
-fn digits_value(s: &[u8]) -> u32
-    requires { (length s.now ≤ 7) × (DigitsTo s.now (length s.now)) }
-    ensures { result ≡ digits_value 10 s.now }
+// The number that a few digits write, or None where there are none.
+fn digits_value(digits: &[u8]) -> Option<u32>
+    requires { (length digits.now ≤ 7) × DigitsTo digits.now (length digits.now) }
+    ensures { MatchOption result (length digits.now ≡ 0) (λ n. (0 < length digits.now) × (n ≡ digits_value 10 digits.now)) }
 {
-    let mut value = 0;
-    for b in s {
-        value = value * 10 + u32::from(*b - b'0');
-    }
-    value
+    str::from_utf8(digits).ok()?.parse::<u32>().ok()
+}
+
+// Whether a number may end before s.
+fn ends(s: &[u8]) -> bool
+    ensures { Decides result (Ends s.now) }
+{
+    matches!(s, [] | [b' ', ..])
 }
 
 // A number without its sign, up to a space or the end, and what follows it.
 fn magnitude(s: &[u8]) -> Option<(u32, &[u8])>
     ensures { MatchOption result ((n : ℕ) (rest : List ℕ) → Plain s.now n rest → ⊥) (λ p. Plain s.now p.0 p.1.now) }
 {
-    let n = digit_run(s);
-    if n == 0 || n > MOST_DIGITS {
+    let (digits, rest) = s.split_at(digit_run(s));
+    if digits.len() > MOST_DIGITS || !ends(rest) {
         return None;
     }
-    if n > 1 && s[0] == b'0' {
+    if digits.len() > 1 && digits[0] == b'0' {
         return None;
     }
-    if n < s.len() && s[n] != b' ' {
-        return None;
-    }
-    Some((digits_value(&s[0..n]), &s[n..]))
-}
-
-// What follows the byte b, where the text begins with it.
-fn after(s: &[u8], b: u8) -> Option<&[u8]>
-    ensures { MatchOption result ((rest : List ℕ) → s.now ≢ b ∷ rest) (λ rest. s.now ≡ b ∷ rest.now) }
-{
-    if s.len() > 0 && s[0] == b {
-        Some(&s[1..])
-    } else {
-        None
-    }
+    Some((digits_value(digits)?, rest))
 }
 
 // The first number of a line's rest, with its space and its sign, and what follows it.
 pub fn number(s: &[u8]) -> Option<(i64, &[u8])>
     ensures { MatchOption result ((z : ℤ) (rest : List ℕ) → Word s.now z rest → ⊥) (λ p. Word s.now p.0 p.1.now) }
 {
-    let text = after(s, b' ')?;
-    match after(text, b'-') {
+    let text = s.strip_prefix(b" ")?;
+    match text.strip_prefix(b"-") {
         Some(digits) => {
             let (n, rest) = magnitude(digits)?;
             if n == 0 {
@@ -107,14 +91,14 @@ impl<'a> Kind<'a> {
         ensures { result.now ≡ after self.entry }
     {
         match self {
-            Kind::Ring(rest) => rest,
-            Kind::Factor(rest) => rest,
-            Kind::Label(rest) => rest,
-            Kind::Subdivision(rest) => rest,
-            Kind::Tile(rest) => rest,
-            Kind::Child(rest) => rest,
-            Kind::Depth(rest) => rest,
-            Kind::Seed(rest) => rest,
+            Kind::Ring(rest)
+            | Kind::Factor(rest)
+            | Kind::Label(rest)
+            | Kind::Subdivision(rest)
+            | Kind::Tile(rest)
+            | Kind::Child(rest)
+            | Kind::Depth(rest)
+            | Kind::Seed(rest) => rest,
         }
     }
 }
@@ -123,9 +107,7 @@ impl<'a> Kind<'a> {
 pub fn kind_of(line: &[u8]) -> Option<Kind<'_>>
     ensures { MatchOption result (Lettered line.now → ⊥) (λ k. line.now ≡ byte (letter k) ∷ after k) }
 {
-    let [first, rest @ ..] = line else {
-        return None;
-    };
+    let (first, rest) = line.split_first()?;
     match char::from(*first) {
         'R' => Some(Kind::Ring(rest)),
         'I' => Some(Kind::Factor(rest)),
@@ -139,20 +121,23 @@ pub fn kind_of(line: &[u8]) -> Option<Kind<'_>>
     }
 }
 
+// Where the first line ends.
+fn line_end(text: &[u8]) -> Option<usize>
+    ensures { result ≡ position (λ b. b == 10) text.now }
+{
+    text.iter().position(|b| *b == b'\n')
+}
+
 // The first line, without its end, and what follows it; None where no line ends.
 pub fn next_line(text: &[u8]) -> Option<(&[u8], &[u8])>
     ensures { MatchOption result ((line rest : List ℕ) → text.now ≢ line ++ 10 ∷ rest) (λ p. Cut text.now p.0.now p.1.now) }
 {
-    for (i, b) in text.iter().enumerate() {
-        if *b == b'\n' {
-            return Some((&text[0..i], &text[i + 1..]));
-        }
-    }
-    None
+    let end = line_end(text)?;
+    Some((&text[..end], &text[end + 1..]))
 }
 
 // Why no line is read: it breaks the spelling, or there was no memory for its numbers.
-#[derive(Clone, Copy)]
+#[derive(Clone, Copy, Debug, PartialEq, Eq)]
 pub enum Misread {
     Misspelt,
     Memory,
@@ -172,10 +157,9 @@ pub fn numbers(heap: Global, s: &[u8]) -> Result<Vec<i64>, Misread>
 {
     let mut found = Vec::new(heap);
     let mut rest = s;
-    while rest.len() > 0 {
-        let Some((z, more)) = number(rest) else {
-            return Err(Misread::Misspelt);
-        };
+    // A loop, since a chain would carry the rest of the line and a fault beside each number.
+    while !rest.is_empty() {
+        let (z, more) = number(rest).ok_or(Misread::Misspelt)?;
         found.push(z)?;
         rest = more;
     }
@@ -186,12 +170,8 @@ pub fn numbers(heap: Global, s: &[u8]) -> Result<Vec<i64>, Misread>
 pub fn first_line(heap: Global, text: &[u8]) -> Result<(Kind<'_>, Vec<i64>, &[u8]), Misread>
     ensures { MatchResult result (λ p. FirstLine text.now (letter p.0) p.1.items p.2.now) (λ e. e ≡ Misspelt → (a : Letter) (zs : List ℤ) (rest : List ℕ) → FirstLine text.now a zs rest → ⊥) }
 {
-    let Some((line, after)) = next_line(text) else {
-        return Err(Misread::Misspelt);
-    };
-    let Some(kind) = kind_of(line) else {
-        return Err(Misread::Misspelt);
-    };
+    let (line, after) = next_line(text).ok_or(Misread::Misspelt)?;
+    let kind = kind_of(line).ok_or(Misread::Misspelt)?;
     let found = numbers(heap, kind.rest())?;
     Ok((kind, found, after))
 }

@@ -9,7 +9,7 @@ use jobs::reading::read;
 use refusals::Fault;
 use std::io::Read;
 use std::process::ExitCode;
-use words::tell;
+use words::InWords;
 
 // One byte more than a text may have is enough to refuse it.
 const MOST_READ: u64 = 16385;
@@ -37,7 +37,7 @@ fn main(rt: HostRuntime) -> anyhow::Result<ExitCode> {
     let text = input(&rt)?;
     match read(rt.alloc(), text.as_slice()) {
         Ok(job) => {
-            tell(&rt, &job)?;
+            print!(rt; "{}", InWords(&job))?;
             Ok(ExitCode::SUCCESS)
         }
         Err(fault) => refused(&rt, fault),

@@ -1,14 +1,14 @@
 -- A child of a placed tile, by its number.
-use Rattle.std.proofs.Common.{◌≡◌, ℕ, ◌<◌, ◌≤◌, Bool, true, false, cond, ◌&&◌, ltb, List, ◌∷◌, length, get_or, IsErrAnd, Ok, Err, Result, sym, refl, ap, ◌∙◌, ap₂, arith, le-ltb, lt-ltb}
-use Rattle.std.proofs.lemmas.Bool.{and_parts}
+use Rattle.std.proofs.Common.{◌≡◌, ℕ, ◌<◌, ◌≤◌, Bool, true, false, cond, ◌&&◌, ltb, List, ◌∷◌, length, get_or, IsErrAnd, Ok, Err, Result, sym, refl, ap, ◌∙◌, ap₂, le-ltb, lt-ltb}
+use Rattle.std.proofs.lemmas.Bool.{and_parts, false_from_ne_true}
 use Rattle.exact.specs.Cyclotomic.{Cyclotomic, CyclotomicLaws}
 use Rattle.exact.specs.JobNumbers.{PlacedNumbers, JobNumbers}
 use Rattle.chains.specs.Books.{Placement, placement_of, book_of}
 use Rattle.chains.specs.Placements.{child_of}
 use Rattle.chains.specs.Addresses.{child_entries, child_count, child_tile, no_entry, leads_down, seed_tile, seed_placement, node_placement, child_placement, placement_below}
-use Rattle.edges.specs.declared.rows.Placement.{Placement as Placed}
+use Rattle.job_rows.specs.declared.Placed.{Placed}
 use Rattle.edges.specs.Views.{placement_view, book_view}
-use Rattle.ring_jobs.specs.Shapes.{placed_with}
+use Rattle.job_rows.specs.Shapes.{placed_with}
 use Rattle.ring_jobs.specs.RingJobs.{coefficients, job_numbers}
 use Rattle.ring_jobs.specs.declared.job.RingJob.{RingJob}
 use Rattle.ring_jobs.proofs.Booked.{book_is}
@@ -19,42 +19,20 @@ use Rattle.nodes.specs.Table.{Entry, there, missing, outside, child_entry, corne
 use Rattle.nodes.specs.Views.{fault_entry, entry_of}
 use Rattle.nodes.specs.declared.fault.PlaceFault.{PlaceFault}
 use Rattle.nodes.specs.declared.fault.PlaceFault.TheVariants.{NoNode, Ring}
-use Rattle.nodes.proofs.Testing.{no_true, yes_plane}
+use Rattle.nodes.proofs.Testing.{yes_plane}
 
 -- ---- what an entry tells
-two_ways : (E : Cyclotomic) → Entry E → Bool
-two_ways E (there p) = true
-two_ways E missing = false
-two_ways E outside = false
-
--- the placement that an entry has, or another
-at_entry : (E : Cyclotomic) → Placement E → Entry E → Placement E
-at_entry E q (there p) = p
-at_entry E q missing = q
-at_entry E q outside = q
-
-is_missing : (E : Cyclotomic) → Entry E → Bool
-is_missing E (there p) = false
-is_missing E missing = true
-is_missing E outside = false
-
-clash : true ≡ false → ⊥
-clash e = let z : ◌≡◌ {A = ℕ} 0 1 = cc in omega arith
-
 pub there_means : (E : Cyclotomic) (p q : Placement E) (b : Bool) → there p ≡ cond b (there q) outside → (b ≡ true) × (p ≡ q)
-unfolding at_entry two_ways
-there_means E p q true e = (refl, ap (at_entry E q) e)
-there_means E p q false e = absurd (clash (ap (two_ways E) e))
+there_means E p q true e = (refl, cc)
+there_means E p q false e = cc
 
 pub not_missing : (E : Cyclotomic) (p : Placement E) → missing ≡ there p → ⊥
-unfolding two_ways
-not_missing E p e = clash (sym (ap (two_ways E) e))
+not_missing E p e = cc
 
 pub fault_means : (E : Cyclotomic) (f : PlaceFault) (q : Placement E) (b : Bool) → fault_entry E f ≡ cond b (there q) outside → (b ≡ false) × (fault_entry E f ≡ outside)
-unfolding two_ways is_missing
-fault_means E NoNode q true e = absurd (clash (ap (is_missing E) e))
-fault_means E NoNode q false e = absurd (clash (ap (is_missing E) e))
-fault_means E (Ring f) q true e = absurd (clash (sym (ap (two_ways E) e)))
+fault_means E NoNode q true e = cc
+fault_means E NoNode q false e = cc
+fault_means E (Ring f) q true e = cc
 fault_means E (Ring f) q false e = (refl, refl)
 
 -- ---- the rows of a job over a ring
@@ -98,7 +76,7 @@ module _ {S : Type 0} (E : Cyclotomic) (L : CyclotomicLaws E) (v : S → E.Elem)
       child_there q a b = ap there (a ∙ same_place) ∙ sym (some_child h ∙ ap (λ b. cond b (there (child_placement E N p k)) outside) (sym same_kept ∙ b))
 
       pub child_outside : (kept_child E (book_view E v j.book) p (placement_view E v c) ≡ true → ⊥) → outside ≡ child_entry E N p k
-      child_outside n = sym (some_child h ∙ ap (λ b. cond b (there (child_placement E N p k)) outside) (sym same_kept ∙ no_true _ n))
+      child_outside n = sym (some_child h ∙ ap (λ b. cond b (there (child_placement E N p k)) outside) (sym same_kept ∙ false_from_ne_true _ n))
 
 -- the exit of a `?`
 pub ring_entry : {S : Type 0} (E : Cyclotomic) (v : S → E.Elem) (r : Result (Placed S) PlaceFault) (f : RingFault) (x : Entry E) → IsErrAnd r (λ y. y ≡ Ring f) → outside ≡ x → entry_of E v r ≡ x

@@ -1,6 +1,7 @@
 -- A child's entry in the table follows from its parent's.
 use Rattle.std.proofs.Common.{◌≡◌, ℕ, ◌<◌, Bool, true, false, cond, ◌&&◌, ltb, List, [], ◌∷◌, ◌++◌, get_or, sym, refl, ap, ◌∙◌, subst, ap₂, arith, ltb-false, ltb-true}
-use Rattle.std.proofs.lemmas.Bool.{and_parts}
+use Rattle.std.proofs.Math.Bool.{and_assoc, and-true}
+use Rattle.std.proofs.lemmas.Bool.{and_parts, false_from_ne_true}
 use Rattle.exact.specs.Cyclotomic.{Cyclotomic}
 use Rattle.exact.specs.JobNumbers.{JobNumbers}
 use Rattle.chains.specs.Books.{Placement, placement_of, book_of}
@@ -8,16 +9,7 @@ use Rattle.chains.specs.Addresses.{Address, level, child_address, has_node, chil
 use Rattle.chains.proofs.Nodes.{has_child, has_child_only, node_placement_tile, node_placement_child}
 use Rattle.nodes.specs.OnPlane.{on_plane, kept_child, kept_corners}
 use Rattle.nodes.specs.Table.{Entry, there, missing, outside, kept_below, kept_way, node_on_plane, table, child_entry, cornered}
-use Rattle.nodes.proofs.Testing.{no_true}
 use Rattle.nodes.proofs.Downward.{there_means, not_missing}
-
-and_assoc : (a b c : Bool) → (a && (b && c)) ≡ (a && b && c)
-and_assoc true b c = refl
-and_assoc false b c = refl
-
-and_true : (a : Bool) → (a && true) ≡ a
-and_true true = refl
-and_true false = refl
 
 module _ (E : Cyclotomic) (N : JobNumbers) where
   abbrev kept : Placement E → ℕ → Bool
@@ -25,14 +17,14 @@ module _ (E : Cyclotomic) (N : JobNumbers) where
 
   below_child : (p : Placement E) (path : List ℕ) (k : ℕ) → kept_below E N p (path ++ k ∷ []) ≡ (kept_below E N p path && kept (placement_below E N p path) k)
   unfolding kept_below placement_below
-  below_child p [] k = and_true _
+  below_child p [] k = and-true _
   below_child p (i ∷ path) k = ap (λ b. kept p i && b) (below_child (child_placement E N p i) path k)
-      ∙ and_assoc (kept p i) (kept_below E N (child_placement E N p i) path) (kept (placement_below E N (child_placement E N p i) path) k)
+      ∙ sym (and_assoc (kept p i) (kept_below E N (child_placement E N p i) path) (kept (placement_below E N (child_placement E N p i) path) k))
 
   way_child : (a : Address) (k : ℕ) → kept_way E N (child_address a k) ≡ (kept_way E N a && kept (node_placement E N a) k)
   unfolding kept_way node_placement
   way_child a k = ap (λ b. on_plane E (seed_placement E N a.seed).place && b) (below_child (seed_placement E N a.seed) a.path k)
-      ∙ and_assoc (on_plane E (seed_placement E N a.seed).place) (kept_below E N (seed_placement E N a.seed) a.path) (kept (node_placement E N a) k)
+      ∙ sym (and_assoc (on_plane E (seed_placement E N a.seed).place) (kept_below E N (seed_placement E N a.seed) a.path) (kept (node_placement E N a) k))
 
   -- an address whose node lies at p
   pub table_there : (a : Address) (p : Placement E) → table E N a ≡ there p → (has_node N a ≡ true) × (node_on_plane E N a ≡ true) × (p ≡ node_placement E N a)
@@ -64,7 +56,7 @@ module _ (E : Cyclotomic) (N : JobNumbers) where
         let w = way_child a k ∙ ap₂ ◌&&◌ way z in
         whole_is true false (has_child N a k here high (subst (λ t. k < child_count N t) (node_placement_tile E N a) (ltb-true _ _ h))) w
     step false c h z =
-        let no : has_node N (child_address a k) ≡ false = no_true _ (λ y. let l = subst (λ t. k < child_count N t) (sym (node_placement_tile E N a)) (has_child_only N a k y).2 in let m = ltb-false _ _ h in omega arith) in
+        let no : has_node N (child_address a k) ≡ false = false_from_ne_true _ (λ y. let l = subst (λ t. k < child_count N t) (sym (node_placement_tile E N a)) (has_child_only N a k y).2 in let m = ltb-false _ _ h in omega arith) in
         whole_is false (kept_way E N (child_address a k)) no refl
 
     pub child_of_node : cornered E N (child_entry E N p k) ≡ table E N (child_address a k)

@@ -1,7 +1,8 @@
 -- The tests that compute say what the facts say.
-use Rattle.std.proofs.Common.{◌≡◌, ℕ, Bool, true, false, cond, not, List, [], ◌∷◌, ℤ, IsErrAnd, Ok, Err, Result, refl, ◌∙◌, le-leb, leb-true}
+use Rattle.std.proofs.Common.{◌≡◌, ℕ, Bool, true, false, cond, not, List, [], ◌∷◌, ℤ, Some, None, Option, MatchOption, IsErrAnd, Ok, Err, Result, subst, refl, ◌∙◌, le-leb, leb-true}
 use mathlib.Core.Bool.{beq}
 use Rattle.std.proofs.lemmas.Bool.{and_parts, and_from}
+use Rattle.std.specs.Option.{ok_or}
 use Rattle.exact.specs.Cyclotomic.{Cyclotomic}
 use Rattle.exact.specs.Sizes.{Within}
 use Rattle.exact.proofs.Sizes.{between_abs, abs_between}
@@ -58,6 +59,16 @@ module _ (E : Cyclotomic) where
     unfolding kept_child
     yes_child p c a b = and_from _ _ (yes_plane _ a) (yes_image _ _ b)
 
+-- an option that a `?` takes, with an error in place of none
+module _ {A F : Type 0} (e : F) (P : Type 0) (Q : A → Type 0) where
+  pub no_value : (o : Option A) (f : F) → ◌≡◌ {A = Result A F} (Err f) (ok_or o e) → MatchOption o P Q → (f ≡ e) × P
+  no_value None f h m = (cc, m)
+  no_value (Some x) f h m = cc
+
+  pub a_value : (o : Option A) (x : A) → ◌≡◌ {A = Result A F} (Ok x) (ok_or o e) → MatchOption o P Q → Q x
+  a_value None x h m = cc
+  a_value (Some y) x h m = let z : y ≡ x = cc in subst Q z m
+
 -- the exit of a `?`: where one of the values is off the plane
 pub off_at : {A : Type 0} (r : Result A RingFault) (P : A → Type 0) (K K' : Type 0) (f : RingFault) → IsErrAnd r (λ y. y ≡ f) → (K' → K) → (f ≡ OffPlane) × (K → ⊥) → Worked r P K'
 off_at (Ok x) P K K' f h k n = absurd h
@@ -68,7 +79,3 @@ not_same true true = refl
 not_same true false = refl
 not_same false true = refl
 not_same false false = refl
-
-pub no_true : (b : Bool) → (b ≡ true → ⊥) → b ≡ false
-no_true true h = absurd (h refl)
-no_true false h = refl

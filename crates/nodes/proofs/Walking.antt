@@ -5,7 +5,7 @@ use Rattle.exact.specs.Cyclotomic.{Cyclotomic}
 use Rattle.chains.specs.Books.{Book, Placement}
 use Rattle.chains.specs.Edges.{along}
 use Rattle.job_rows.specs.declared.Step.{Step}
-use Rattle.jobs.specs.Rows.{step_of}
+use Rattle.job_rows.specs.Shapes.{step_of}
 use Rattle.nodes.specs.OnPlane.{kept_along, kept_image, kept_corners_from}
 
 module _ (E : Cyclotomic) (B : Book E) (p : Placement E) (steps : List Step) (i : ℕ) where

@@ -2,7 +2,7 @@
 use Rattle.std.specs.Prelude.{take, Ok, Err, Result}
 use Rattle.exact.specs.Cyclotomic.{Cyclotomic}
 use Rattle.chains.specs.Addresses as chains
-use Rattle.edges.specs.declared.rows.Placement.{Placement as Placed}
+use Rattle.job_rows.specs.declared.Placed.{Placed}
 use Rattle.edges.specs.Views.{placement_view}
 use Rattle.nodes.specs.Table.{Entry, there, missing, outside}
 use Rattle.nodes.specs.declared.address.Address.{Address}

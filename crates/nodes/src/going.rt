@@ -17,19 +17,23 @@ impl Address {
         }
     }
 
+    // The child numbers from the seed tile down.
+    pub fn children(&self) -> &[u8]
+        ensures { result.now ≡ (address_view self.now).path }
+    {
+        &self.path[..usize::from(self.level)]
+    }
+
     // The parent's address and the child's number; None for a seed tile.
     pub fn parent(&self) -> Option<(Address, u8)>
         ensures { MatchOption result
             (self.now.level ≡ 0)
             (λ q. address_view self.now ≡ child_address (address_view q.0) q.1) }
     {
-        if self.level == 0 {
-            return None;
-        }
-        let level = self.level - 1;
+        let level = self.level.checked_sub(1)?;
         let mut path = self.path;
-        let child = path[level as usize];
-        path[level as usize] = 0;
+        let child = path[usize::from(level)];
+        path[usize::from(level)] = 0;
         let parent = Address {
             seed: self.seed,
             level,

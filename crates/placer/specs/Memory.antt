@@ -2,7 +2,7 @@
 use Rattle.std.specs.Prelude.{◌≡◌, Some, None, Option}
 use Rattle.exact.specs.Cyclotomic.{Cyclotomic}
 use Rattle.exact.specs.JobNumbers.{JobNumbers}
-use Rattle.edges.specs.declared.rows.Placement.{Placement as Placed}
+use Rattle.job_rows.specs.declared.Placed.{Placed}
 use Rattle.edges.specs.Views.{placement_view}
 use Rattle.nodes.specs.Table.{there, table}
 use Rattle.nodes.specs.Views.{address_view}

@@ -3,7 +3,7 @@ ghost use Rattle.std.specs.Prelude.{◌≡◌, refl};
 ghost use Rattle.ring_jobs.specs.RingJobs.{job_numbers};
 
 use crate::placer::Placer;
-use edges::rows::Placement;
+use edges::rows::Placed;
 use nodes::address::Address;
 use nodes::fault::PlaceFault;
 use nodes::placing::placement;
@@ -43,7 +43,7 @@ impl<R: Ring> Placer for Descent<R> {
         &self.job
     }
 
-    fn place(&mut self, at: &Address) -> Result<Placement<R>, PlaceFault> {
+    fn place(&mut self, at: &Address) -> Result<Placed<R>, PlaceFault> {
         placement(&self.job, at)
     }
 }

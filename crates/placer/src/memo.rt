@@ -6,7 +6,7 @@ ghost use Rattle.placer.specs.Memory.{Right, Recalled};
 ghost use Rattle.std.proofs.Math.Logic.{∥∥₁_elim, ∥∥₁_prop};
 
 use crate::placer::Placer;
-use edges::rows::Placement;
+use edges::rows::Placed;
 use nodes::address::Address;
 use nodes::fault::PlaceFault;
 use nodes::placing::child_placement;
@@ -17,7 +17,7 @@ use rings::ring::Ring;
 #[derive(Clone, Copy)]
 pub struct Held<R> {
     pub address: Address,
-    pub placed: Placement<R>,
+    pub placed: Placed<R>,
 }
 
 #[derive(Drop)]
@@ -42,10 +42,10 @@ impl<P: Placer> Memo<P> {
     }
 
     // The placement of a parent, held from now on.
-    fn parent(&mut self, over: &Address) -> Result<Placement<P::R>, PlaceFault>
-        ensures answer { (P.Placer.sound self.old.lower × Right P.R.Ring.exact P.R.Ring.value (P.Placer.plan self.old.lower) self.old.held) → entry_of P.R.Ring.exact P.R.Ring.value result ≡ table P.R.Ring.exact (P.Placer.plan self.old.lower) (address_view over.now) }
+    fn parent(&mut self, over: &Address) -> Result<Placed<P::R>, PlaceFault>
+        ensures answer { ⟦<Memo<P> as Placer>⟧.sound self.old → entry_of P.R.Ring.exact P.R.Ring.value result ≡ table P.R.Ring.exact (P.Placer.plan self.old.lower) (address_view over.now) }
         ensures kept { P.Placer.plan self.new.lower ≡ P.Placer.plan self.old.lower }
-        ensures sound { (P.Placer.sound self.old.lower × Right P.R.Ring.exact P.R.Ring.value (P.Placer.plan self.old.lower) self.old.held) → P.Placer.sound self.new.lower × Right P.R.Ring.exact P.R.Ring.value (P.Placer.plan self.new.lower) self.new.held }
+        ensures sound { ⟦<Memo<P> as Placer>⟧.sound self.old → ⟦<Memo<P> as Placer>⟧.sound self.new }
     {
         if let Some(placed) = recall(&self.held, over) {
             return Ok(placed);
@@ -73,33 +73,26 @@ impl<P: Placer> Placer for Memo<P> {
     }
 
     // A parent off the plane by its own corners may have a child on it, so the placer below is then asked for the child itself.
-    fn place(&mut self, at: &Address) -> Result<Placement<P::R>, PlaceFault> {
-        if at.level as u32 > self.lower.job().depth {
+    fn place(&mut self, at: &Address) -> Result<Placed<P::R>, PlaceFault> {
+        if u32::from(at.level) > self.lower.job().depth {
             return self.lower.place(at);
         }
-        let Some(up) = at.parent() else {
+        let Some((over, child)) = at.parent() else {
             return self.lower.place(at);
         };
-        let (over, child) = up;
         match self.parent(&over) {
-            Ok(above) => child_placement(self.lower.job(), &above, child as usize),
+            Ok(above) => child_placement(self.lower.job(), &above, usize::from(child)),
             Err(_) => self.lower.place(at),
         }
     }
 }
 
 // What is held for an address.
-fn recall<R: Ring>(held: &Option<Held<R>>, at: &Address) -> Option<Placement<R>>
+fn recall<R: Ring>(held: &Option<Held<R>>, at: &Address) -> Option<Placed<R>>
     ensures { Recalled held.now at.now result }
 {
     match held {
-        Some(h) => {
-            if h.address == *at {
-                Some(h.placed)
-            } else {
-                None
-            }
-        }
-        None => None,
+        Some(h) if h.address == *at => Some(h.placed),
+        _ => None,
     }
 }

@@ -5,7 +5,7 @@ ghost use Rattle.ring_jobs.specs.RingJobs.{job_numbers};
 ghost use Rattle.nodes.specs.Table.{table};
 ghost use Rattle.nodes.specs.Views.{address_view, entry_of};
 
-use edges::rows::Placement;
+use edges::rows::Placed;
 use nodes::address::Address;
 use nodes::fault::PlaceFault;
 use ring_jobs::job::RingJob;
@@ -26,7 +26,7 @@ pub trait Placer {
     fn job(&self) -> &RingJob<Self::R>
         ensures { job_numbers Self.R.Ring.exact Self.R.Ring.value result.now ≡ plan self.now };
 
-    fn place(&mut self, at: &Address) -> Result<Placement<Self::R>, PlaceFault>
+    fn place(&mut self, at: &Address) -> Result<Placed<Self::R>, PlaceFault>
         ensures answer { sound self.old → entry_of Self.R.Ring.exact Self.R.Ring.value result ≡ table Self.R.Ring.exact (plan self.old) (address_view at.now) }
         ensures kept { plan self.new ≡ plan self.old }
         ensures sound { sound self.old → sound self.new };

@@ -18,7 +18,7 @@ pub enum Layer {
 pub trait Fault {
     ghost refusal: { Self → Refusal };
 
-    // None for what is no refusal of the input, as want of memory.
+    // None for what is no refusal of the input, as want of memory. A number, by a rule of the project: users know refusals by theirs.
     fn number(&self) -> Option<u8>
         ensures { result ≡ (refusal self.now).number };
 

@@ -2,11 +2,11 @@
 use Rattle.std.proofs.Common.{◌≡◌, List, [], ◌∷◌, map, vec_items, refl, ap₂}
 use Rattle.exact.specs.Cyclotomic.{Cyclotomic, CyclotomicLaws}
 use Rattle.chains.specs.Books.{label_of, placement_of, tile_of, book_of, seeds_of}
-use Rattle.edges.specs.declared.rows.Label.{Label}
-use Rattle.edges.specs.declared.rows.Placement.{Placement as Placed}
-use Rattle.edges.specs.declared.rows.Tile.{Tile}
+use Rattle.job_rows.specs.declared.Label.{Label}
+use Rattle.job_rows.specs.declared.Placed.{Placed}
+use Rattle.job_rows.specs.declared.Tile.{Tile}
 use Rattle.edges.specs.Views.{label_view, placement_view, tile_view, book_view}
-use Rattle.ring_jobs.specs.Shapes.{label_with, placed_with, tile_with, numbers_with}
+use Rattle.job_rows.specs.Shapes.{label_with, placed_with, tile_with}
 use Rattle.ring_jobs.specs.RingJobs.{coefficients, job_numbers}
 use Rattle.ring_jobs.specs.declared.job.RingJob.{RingJob}
 
@@ -24,21 +24,18 @@ module _ {S : Type 0} (E : Cyclotomic) (L : CyclotomicLaws E) (v : S → E.Elem)
   tiles_are (t ∷ ts) = ap₂ ◌∷◌ (λ i. record { outline = (tile_view E v t).outline; children = placed_is (vec_items t.children) i }) (tiles_are ts)
 
   pub book_is : (j : RingJob S) → book_of E (job_numbers E v j) ≡ book_view E v j.book
-  unfolding book_of numbers_with book_view
+  unfolding book_of book_view
   book_is j = λ i. record { factor = L.of_list (v j.book.factor) i; labels = labels_are (vec_items j.book.labels) i; tiles = tiles_are (vec_items j.book.tiles) i }
 
   pub seeds_are : (j : RingJob S) → seeds_of E (job_numbers E v j) ≡ map (placement_view E v) (vec_items j.seeds)
-  unfolding seeds_of numbers_with
+  unfolding seeds_of
   seeds_are j = placed_is (vec_items j.seeds)
 
   pub order_is : (j : RingJob S) → (job_numbers E v j).order ≡ j.order
-  unfolding numbers_with
   order_is j = refl
 
   pub rank_is : (j : RingJob S) → (job_numbers E v j).rank ≡ j.rank
-  unfolding numbers_with
   rank_is j = refl
 
   pub depth_is : (j : RingJob S) → (job_numbers E v j).depth ≡ j.depth
-  unfolding numbers_with
   depth_is j = refl

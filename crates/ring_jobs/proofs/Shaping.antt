@@ -1,31 +1,26 @@
 -- What a job in range has over any ring, and what stays when its lists of coefficients are put through a function.
-use Rattle.std.proofs.Common.{◌≡◌, ℕ, zero, suc, ◌<◌, ◌≤◌, Bool, List, [], ◌∷◌, map, length, get_or, ℤ, pos, IsErrAnd, Ok, Err, vec_items, Result, sym, refl, ap, ◌∙◌, subst, ap₂, arith, MatchResult}
+use Rattle.std.proofs.Common.{◌≡◌, ℕ, zero, suc, ◌<◌, Bool, List, [], ◌∷◌, map, length, get_or, ℤ, pos, IsErrAnd, Ok, Err, vec_items, Result, sym, refl, ap, ◌∙◌, subst, ap₂, arith, MatchResult}
 use mathlib.Core.Logic.{∥∥₁_elim, ∥∥₁_prop}
 use Rattle.std.specs.List.{AllByRecursion}
 use Rattle.std.proofs.lemmas.List.{length-map}
 use Rattle.std.proofs.ByRecursion.{All-map, All-weaker}
 use Rattle.exact.specs.Cyclotomic.{Cyclotomic, CyclotomicLaws}
-use Rattle.exact.specs.JobNumbers.{Part, LabelNumbers, PlacedNumbers, TileNumbers, JobNumbers}
+use Rattle.exact.specs.JobNumbers.{LabelNumbers, PlacedNumbers, TileNumbers, JobNumbers}
 use Rattle.exact.specs.Sizes.{Between, Within}
 use Rattle.exact.proofs.Sizes.{abs_between}
 use Rattle.rings.specs.Plane.{plane_bound, fitted_from}
-use Rattle.jobs.specs.Limits.{most_parts}
-use Rattle.jobs.specs.Fronts.{Head, labelled}
-use Rattle.jobs.specs.Rows.{part_of, step_of, placed_of, tile_of}
-use Rattle.job_rows.specs.declared.Part.{Part as PartRow}
-use Rattle.jobs.specs.declared.rows.Tile.{Tile as TileRow}
-use Rattle.edges.specs.declared.rows.Label.{Label}
-use Rattle.edges.specs.declared.rows.Placement.{Placement as Placed}
-use Rattle.edges.specs.declared.rows.Tile.{Tile}
-use Rattle.edges.specs.declared.rows.Book.{Book}
+use Rattle.job_rows.specs.declared.Label.{Label}
+use Rattle.job_rows.specs.declared.Placed.{Placed}
+use Rattle.job_rows.specs.declared.Tile.{Tile}
+use Rattle.job_rows.specs.declared.Book.{Book}
 use Rattle.edges.specs.declared.fault.ChainFault.{ChainFault}
 use Rattle.edges.specs.declared.fault.ChainFault.TheVariants.{Ring, Memory}
 use Rattle.edges.specs.Answers.{Excused}
 use Rattle.jobs.specs.Ranges.{Coefficient, LabelFits, TileFits, PlacedFits, InRange, kinds_of}
-use Rattle.ring_jobs.specs.Shapes.{label_with, placed_with, tile_with, numbers_with, Branching}
+use Rattle.job_rows.specs.Shapes.{label_with, placed_with, tile_with, numbers_with}
+use Rattle.ring_jobs.specs.Shapes.{Branching}
 use Rattle.ring_jobs.specs.Fitted.{fitted, relisted_label, relisted_placed, relisted_tile, relisted, fitted_job}
-use Rattle.ring_jobs.specs.RingJobs.{ListedOnPlane, PlacedOnPlane, TileOnPlane}
-use Rattle.ring_jobs.specs.Small.{SmallTile}
+use Rattle.ring_jobs.specs.RingJobs.{ListedOnPlane, LabelOnPlane, PlacedOnPlane, TileOnPlane}
 use Rattle.ring_jobs.proofs.Reading.{fitted_length, fitted_same, placed_same}
 use Rattle.ring_jobs.proofs.Rowwise.{tile_same, label_same}
 
@@ -92,7 +87,7 @@ module _ (f : List ℤ → List ℤ) where
     tiles_relisted (t ∷ ts) = ap₂ ◌∷◌ (tile_same _ _ _ _ refl (rows_relisted (vec_items t.children))) (tiles_relisted ts)
 
     pub numbers_relisted : (n d : ℕ) (b : Book S) (depth : ℕ) (ps : List (Placed S)) → numbers_with (λ z. f (listed z)) n d b depth ps ≡ relisted f (numbers_with listed n d b depth ps)
-    unfolding numbers_with relisted
+    unfolding relisted
     numbers_relisted n d b depth ps = job_same _ _ _ _ _ _ _ _ _ _ _ refl (labels_relisted (vec_items b.labels)) (tiles_relisted (vec_items b.tiles)) (rows_relisted ps)
 
 -- ---- what a job in range has
@@ -135,23 +130,8 @@ module _ (E : Cyclotomic) (L : CyclotomicLaws E) where
   pub tiles_on_plane : (kinds : List Bool) (n d : ℕ) (ts : List TileNumbers) → AllByRecursion (TileFits kinds n d) ts → AllByRecursion (TileOnPlane E) ts
   tiles_on_plane kinds n d ts a = All-weaker _ _ (λ t h. placed_on_plane n d t.children h.1.2) ts a
 
-  pub heads_on_plane : (kinds : List Bool) (d : ℕ) (hs : List Head) (pss : List (List Part)) → AllByRecursion (LabelFits kinds d) (labelled hs pss) → AllByRecursion (λ (h : Head). ListedOnPlane E h.length) hs
-  heads_on_plane kinds d [] pss a = tt
-  heads_on_plane kinds d (h ∷ hs) [] a = (element_on_plane h.length a.0.0.1, heads_on_plane kinds d hs [] a.1)
-  heads_on_plane kinds d (h ∷ hs) (ps ∷ pss) a = (element_on_plane h.length a.0.0.1, heads_on_plane kinds d hs pss a.1)
-
--- ---- its lists are short
-pub tiles_small : (kinds : List Bool) (n d : ℕ) (ts : List TileRow) → AllByRecursion (TileFits kinds n d) (map tile_of ts) → AllByRecursion SmallTile ts
-tiles_small kinds n d [] a = tt
-tiles_small kinds n d (t ∷ ts) a =
-    let o = t.outline.ok.0 ∙ sym (length-map (vec_items t.outline) step_of) in
-    let c = t.children.ok.0 ∙ sym (length-map (vec_items t.children) placed_of) in
-    ((omega (arith, o, a.0.0.1), omega (arith, c, a.0.1.1)), tiles_small kinds n d ts a.1)
-
-pub parts_short : {V : Type 0} (view : V → List PartRow) (kinds : List Bool) (d : ℕ) (hs : List Head) (vs : List V) → length vs ≡ length hs → AllByRecursion (LabelFits kinds d) (labelled hs (map (λ v. map part_of (view v)) vs)) → AllByRecursion (λ v. length (view v) ≤ most_parts) vs
-parts_short view kinds d hs [] e a = tt
-parts_short view kinds d [] (v ∷ vs) e a = absurd (omega arith)
-parts_short view kinds d (h ∷ hs) (v ∷ vs) e a = (subst (λ n. n ≤ most_parts) (length-map (view v) part_of) a.0.1.1, parts_short view kinds d hs vs (omega arith) a.1)
+  pub labels_on_plane : (kinds : List Bool) (d : ℕ) (ls : List LabelNumbers) → AllByRecursion (LabelFits kinds d) ls → AllByRecursion (LabelOnPlane E) ls
+  labels_on_plane kinds d ls a = All-weaker _ _ (λ l h. element_on_plane l.length h.0.1) ls a
 
 -- ---- where nothing leaves the plane, only memory can be wanting
 pub only_memory : {A : Type 0} (r : Result A ChainFault) (P : A → Type 0) (K : Type 0) (e : ChainFault) → ∥ K ∥₁ → Excused e K → IsErrAnd r (λ y. y ≡ e) → MatchResult r P (λ f. f ≡ Memory)

@@ -1,4 +1,3 @@
 pub mod Shapes
 pub mod Fitted
 pub mod RingJobs
-pub mod Small

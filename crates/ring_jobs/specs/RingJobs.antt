@@ -4,7 +4,7 @@ use Rattle.exact.specs.Cyclotomic.{Cyclotomic}
 use Rattle.exact.specs.JobNumbers.{LabelNumbers, PlacedNumbers, TileNumbers, JobNumbers}
 use Rattle.rings.specs.Plane.{OnPlane, read_list}
 use Rattle.std.specs.List.{AllByRecursion}
-use Rattle.ring_jobs.specs.Shapes.{numbers_with}
+use Rattle.job_rows.specs.Shapes.{numbers_with}
 use Rattle.ring_jobs.specs.declared.job.RingJob.{RingJob}
 
 -- the job's n and d are the ring's

@@ -1,138 +1,135 @@
 // Ring values from a job's lists.
-ghost use Rattle.std.specs.Prelude.{◌≡◌, ◌≤◌, map, length, vec_len, MatchResult};
+ghost use Rattle.std.specs.Prelude.{◌≡◌, map, MatchResult};
 ghost use Rattle.std.specs.List.{AllByRecursion};
-ghost use Rattle.jobs.specs.Limits.{most_parts, most_steps, most_children};
-ghost use Rattle.jobs.specs.Rows.{head_of, part_of, placed_of, tile_of};
-ghost use Rattle.edges.specs.Answers.{Worked, Made};
+ghost use Rattle.jobs.specs.Rings.{order_of, rank_of};
+ghost use Rattle.jobs.specs.Rows.{label_of, placed_of, tile_of};
+ghost use Rattle.exact.specs.JobNumbers.{LabelNumbers, PlacedNumbers, TileNumbers};
+ghost use Rattle.edges.specs.Answers.{Made};
 ghost use Rattle.edges.specs.declared.fault.ChainFault.TheVariants.{Memory};
-ghost use Rattle.jobs.specs.Fronts.{labelled};
 ghost use Rattle.jobs.specs.Jobs.{numbers};
-ghost use Rattle.ring_jobs.specs.Shapes.{label_with, placed_with, tile_with, numbers_with};
-ghost use Rattle.ring_jobs.specs.Small.{SmallTile, divided};
+ghost use Rattle.job_rows.specs.Shapes.{label_with, placed_with, tile_with, numbers_with};
 ghost use Rattle.ring_jobs.specs.Fitted.{fitted, relisted_label, relisted_placed, relisted_tile, fitted_job};
-ghost use Rattle.ring_jobs.specs.RingJobs.{ListedOnPlane, LabelOnPlane, PlacedOnPlane, TileOnPlane, coefficients, job_numbers};
+ghost use Rattle.ring_jobs.specs.RingJobs.{LabelOnPlane, PlacedOnPlane, TileOnPlane, coefficients, job_numbers};
 
 use crate::job::RingJob;
 use edges::fault::ChainFault;
-use edges::rows::{Book, Label, Placement, Tile};
+use edges::rows::{Book, Label, Placed, Tile};
 use jobs::job::Job;
-use jobs::rows::{Label as LabelRow, Part, Placed as PlacedRow, Tile as TileRow};
-use rings::fault::RingFault;
+use jobs::rows::{Label as LabelRow, Placed as PlacedRow, Tile as TileRow};
 use rings::ring::Ring;
 use std::alloc::Global;
 
-// A child or a seed tile over the ring.
-fn placed_over<R: Ring>(row: &PlacedRow) -> Result<Placement<R>, RingFault>
-    ensures { Worked result
-        (λ p. placed_with (coefficients R.exact R.value) p ≡ relisted_placed (fitted R.exact.d) (placed_of row.now))
-        (PlacedOnPlane R.exact (placed_of row.now)) }
-{
-    let place = R::make(row.place.as_slice())?;
-    Ok(Placement {
-        tile: row.tile,
-        turn: row.turn,
-        mirrored: row.mirrored,
-        place,
-    })
+// What is made over a ring of a row of a job's lists.
+trait FromRow: Drop {
+    type Row;
+
+    // the numbers that a made value and a row stand for
+    ghost Numbers: { Type 0 };
+
+    ghost made: { Self → Numbers };
+
+    ghost listed: { Self.Row → Numbers };
+
+    // what the ring reads of a row's numbers, and whether its elements are on the plane
+    ghost as_read: { Numbers → Numbers };
+
+    ghost OnPlane: { Numbers → Type 0 };
+
+    fn from_row(heap: Global, row: &Self::Row) -> Result<Self, ChainFault>
+        ensures { Made result (λ x. made x ≡ as_read (listed row.now)) (OnPlane (listed row.now)) };
 }
 
-// Children or seed tiles over the ring.
-fn all_placed<R: Ring>(heap: Global, rows: &[PlacedRow]) -> Result<Vec<Placement<R>>, ChainFault>
+// Every row over the ring.
+fn all_over<T: FromRow>(heap: Global, rows: &[T::Row]) -> Result<Vec<T>, ChainFault>
     ensures { Made result
-        (λ v. map (placed_with (coefficients R.exact R.value)) v.items ≡ map (relisted_placed (fitted R.exact.d)) (map placed_of rows.now))
-        (AllByRecursion (PlacedOnPlane R.exact) (map placed_of rows.now)) }
+        (λ v. map T.made v.items ≡ map T.as_read (map T.listed rows.now))
+        (AllByRecursion T.OnPlane (map T.listed rows.now)) }
 {
     let mut out = Vec::new(heap);
     for row in rows {
-        let placed = placed_over(row)?;
-        out.push(placed)?;
+        let made = T::from_row(heap, row)?;
+        out.push(made)?;
     }
     Ok(out)
 }
 
-// A copy of some rows.
-fn copied<T: Copy>(heap: Global, items: &[T]) -> Result<Vec<T>, ChainFault>
-    ensures { Made result (λ v. v.items ≡ items.now) (Unit {0}) }
-{
-    match Vec::from_slice(heap, items) {
-        Ok(v) => Ok(v),
-        Err(_) => Err(ChainFault::Memory),
+// A child or a seed tile.
+impl<R: Ring> FromRow for Placed<R> {
+    type Row = PlacedRow;
+
+    ghost Numbers = { PlacedNumbers };
+
+    ghost made = { placed_with (coefficients R.exact R.value) };
+
+    ghost listed = { placed_of };
+
+    ghost as_read = { relisted_placed (fitted R.exact.d) };
+
+    ghost OnPlane = { PlacedOnPlane R.exact };
+
+    fn from_row(_heap: Global, row: &PlacedRow) -> Result<Placed<R>, ChainFault> {
+        let place = R::make(row.place.as_slice())?;
+        Ok(Placed {
+            tile: row.tile,
+            turn: row.turn,
+            mirrored: row.mirrored,
+            place,
+        })
     }
 }
 
-// A tile over the ring.
-fn tile_over<R: Ring>(heap: Global, tile: &TileRow) -> Result<Tile<R>, ChainFault>
-    requires { (vec_len tile.now.outline ≤ most_steps) × (vec_len tile.now.children ≤ most_children) }
-    ensures { Made result
-        (λ t. tile_with (coefficients R.exact R.value) t ≡ relisted_tile (fitted R.exact.d) (tile_of tile.now))
-        (TileOnPlane R.exact (tile_of tile.now)) }
-{
-    let outline = copied(heap, tile.outline.as_slice())?;
-    let children = all_placed(heap, tile.children.as_slice())?;
-    Ok(Tile { outline, children })
-}
+impl<R: Ring> FromRow for Tile<R> {
+    type Row = TileRow;
 
-fn tiles_over<R: Ring>(heap: Global, tiles: &[TileRow]) -> Result<Vec<Tile<R>>, ChainFault>
-    requires { ∥ AllByRecursion SmallTile tiles.now ∥₁ }
-    ensures { Made result
-        (λ v. map (tile_with (coefficients R.exact R.value)) v.items ≡ map (relisted_tile (fitted R.exact.d)) (map tile_of tiles.now))
-        (AllByRecursion (TileOnPlane R.exact) (map tile_of tiles.now)) }
-{
-    let mut out = Vec::new(heap);
-    for tile in tiles {
-        let tile = tile_over(heap, tile)?;
-        out.push(tile)?;
+    ghost Numbers = { TileNumbers };
+
+    ghost made = { tile_with (coefficients R.exact R.value) };
+
+    ghost listed = { tile_of };
+
+    ghost as_read = { relisted_tile (fitted R.exact.d) };
+
+    ghost OnPlane = { TileOnPlane R.exact };
+
+    fn from_row(heap: Global, tile: &TileRow) -> Result<Tile<R>, ChainFault> {
+        let outline = Vec::from_slice(heap, tile.outline.as_slice())?;
+        let children = all_over(heap, tile.children.as_slice())?;
+        Ok(Tile { outline, children })
     }
-    Ok(out)
 }
 
-// A label and its subdivision over the ring.
-fn label_over<R: Ring>(
-    heap: Global,
-    label: &LabelRow,
-    parts: &[Part],
-) -> Result<Label<R>, ChainFault>
-    requires { length parts.now ≤ most_parts }
-    ensures { Made result
-        (λ l. label_with (coefficients R.exact R.value) l ≡ relisted_label (fitted R.exact.d) (divided (head_of label.now) (map part_of parts.now)))
-        (ListedOnPlane R.exact label.now.length.items) }
-{
-    let length = R::make(label.length.as_slice())?;
-    let subdivision = copied(heap, parts)?;
-    Ok(Label {
-        arrowed: label.arrowed,
-        length,
-        subdivision,
-    })
-}
+impl<R: Ring> FromRow for Label<R> {
+    type Row = LabelRow;
 
-// Label i has subdivision i.
-fn labels_over<R: Ring>(
-    heap: Global,
-    labels: &[LabelRow],
-    subdivisions: &[Vec<Part>],
-) -> Result<Vec<Label<R>>, ChainFault>
-    requires { (length subdivisions.now ≡ length labels.now) × (∥ AllByRecursion (λ v. length v.items ≤ most_parts) subdivisions.now ∥₁) }
-    ensures { Made result
-        (λ v. map (label_with (coefficients R.exact R.value)) v.items ≡ map (relisted_label (fitted R.exact.d)) (labelled (map head_of labels.now) (map (λ v. map part_of v.items) subdivisions.now)))
-        (AllByRecursion (λ h. ListedOnPlane R.exact h.length) (map head_of labels.now)) }
-{
-    let mut out = Vec::new(heap);
-    for i in 0..labels.len() {
-        let label = label_over(heap, &labels[i], subdivisions[i].as_slice())?;
-        out.push(label)?;
+    ghost Numbers = { LabelNumbers };
+
+    ghost made = { label_with (coefficients R.exact R.value) };
+
+    ghost listed = { label_of };
+
+    ghost as_read = { relisted_label (fitted R.exact.d) };
+
+    ghost OnPlane = { LabelOnPlane R.exact };
+
+    fn from_row(heap: Global, label: &LabelRow) -> Result<Label<R>, ChainFault> {
+        let length = R::make(label.length.as_slice())?;
+        let subdivision = Vec::from_slice(heap, label.subdivision.as_slice())?;
+        Ok(Label {
+            arrowed: label.arrowed,
+            length,
+            subdivision,
+        })
     }
-    Ok(out)
 }
 
 // The parts of a job over a ring, put together.
-fn assembled<R: Ring>(job: &Job, book: Book<R>, seeds: Vec<Placement<R>>) -> RingJob<R>
-    requires { numbers_with (coefficients R.exact R.value) job.now.order job.now.rank book job.now.depth seeds.items ≡ fitted_job R.exact.d (numbers job.now) }
+fn assembled<R: Ring>(job: &Job, book: Book<R>, seeds: Vec<Placed<R>>) -> RingJob<R>
+    requires { numbers_with (coefficients R.exact R.value) (order_of job.now.ring) (rank_of job.now.ring) book job.now.depth seeds.items ≡ fitted_job R.exact.d (numbers job.now) }
     ensures { job_numbers R.exact R.value result ≡ fitted_job R.exact.d (numbers job.now) }
 {
     RingJob {
-        order: job.order,
-        rank: job.rank,
+        order: job.order(),
+        rank: job.rank(),
         book,
         depth: job.depth,
         seeds,
@@ -146,10 +143,10 @@ pub fn over<R: Ring>(heap: Global, job: &Job) -> Result<RingJob<R>, ChainFault>
         (λ j. job_numbers R.exact R.value j ≡ fitted_job R.exact.d (numbers job.now))
         (λ f. f ≡ Memory) }
 {
-    let factor = R::make(job.factor.as_slice())?;
-    let labels = labels_over(heap, job.labels.as_slice(), job.subdivisions.as_slice())?;
-    let tiles = tiles_over(heap, job.tiles.as_slice())?;
-    let seeds = all_placed(heap, job.seeds.as_slice())?;
+    let factor = R::make(job.book.factor.as_slice())?;
+    let labels = all_over(heap, job.book.labels.as_slice())?;
+    let tiles = all_over(heap, job.book.tiles.as_slice())?;
+    let seeds = all_over(heap, job.seeds.as_slice())?;
     let book = Book {
         factor,
         labels,

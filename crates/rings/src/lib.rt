@@ -5,4 +5,6 @@ pub mod fault;
 pub mod group;
 pub mod plane;
 pub mod ring;
+pub mod rows;
 pub mod sizes;
+pub mod sweeps;

@@ -2,25 +2,31 @@ ghost use Rattle.std.specs.Prelude.{◌≡◌, ℕ, ◌≤◌, Bool, List, ℤ, 
 ghost use Rattle.exact.specs.Cyclotomic.{Cyclotomic, CyclotomicLaws, power, same_element};
 ghost use Rattle.exact.specs.Residues.{Residue, Total, residue};
 ghost use Rattle.exact.specs.Sizes.{Within};
-ghost use Rattle.exact.specs.Sweeps.{sweep, total_of, read_total};
+ghost use Rattle.exact.specs.Sweeps.{sweep, total_of, coefficients_from, read_total};
 ghost use Rattle.rings.specs.Plane.{OnPlane, read_list, sweep_bound};
 ghost use Rattle.rings.specs.Answers.{Exactly, HeightOf};
 ghost use Rattle.rings.specs.Tied.{TiedToTotals};
 
 use crate::fault::RingFault;
 use crate::group::Group;
+use crate::rows::Coefficients;
 
 // A ring of cyclotomic integers: positions, whose coefficients stay on the plane.
 // An operation answers the exact result, or 'off the plane' exactly where a coefficient of that result lies outside;
 // what leaves the plane on the way refuses nothing.
 pub trait Ring: Copy + PartialEq {
-    // The ring's n and d. Generic code knows nothing of a constant's value: `order` and `rank` tell it to a proof.
+    // The ring's n and d.
     const N: u32;
 
     const D: usize;
 
-    // d coefficients with no bound.
-    type Plain: Copy;
+    // the same, as a clause names them
+    ghost N: { ℕ };
+
+    ghost D: { ℕ };
+
+    // d coefficients with no bound
+    type Plain: Coefficients;
 
     type Sweep: Group;
 
@@ -44,15 +50,12 @@ pub trait Ring: Copy + PartialEq {
         Self::unit(k).mul(self)
     }
 
-    fn order() -> u32
-        ensures { result ≡ exact.n };
-
-    fn rank() -> usize
-        ensures { result ≡ exact.d };
-
     // The position with the listed coefficients. What a list lacks is 0; what it has beyond d is passed over.
     fn make(list: &[i64]) -> Result<Self, RingFault>
-        ensures { Exactly exact value result (read_list exact list.now) };
+        ensures { Exactly exact value result (read_list exact list.now) }
+    {
+        Self::from_plain(Self::Plain::read(list))
+    }
 
     fn from_plain(plain: Self::Plain) -> Result<Self, RingFault>
         ensures { Exactly exact value result (exact.of (listed plain)) };
@@ -62,10 +65,16 @@ pub trait Ring: Copy + PartialEq {
 
     // Coefficient k, 0 from d on.
     fn coefficient(self, k: usize) -> i64
-        ensures { result ≡ slice_index_or (exact.list (value self)) k (pos 0) };
+        ensures { result ≡ slice_index_or (exact.list (value self)) k (pos 0) }
+    {
+        Self::plain_coefficient(self.plain(), k)
+    }
 
     fn plain_coefficient(plain: Self::Plain, k: usize) -> i64
-        ensures { result ≡ slice_index_or (listed plain) k (pos 0) };
+        ensures { result ≡ slice_index_or (listed plain) k (pos 0) }
+    {
+        plain.number(k)
+    }
 
     fn zero() -> Self
         ensures { value result ≡ exact.zero };
@@ -75,10 +84,16 @@ pub trait Ring: Copy + PartialEq {
         ensures { value result ≡ power exact k };
 
     fn add(self, other: Self) -> Result<Self, RingFault>
-        ensures { Exactly exact value result (exact.add (value self) (value other)) };
+        ensures { Exactly exact value result (exact.add (value self) (value other)) }
+    {
+        Self::from_plain(self.plain().plus(other.plain()))
+    }
 
     fn sub(self, other: Self) -> Result<Self, RingFault>
-        ensures { Exactly exact value result (exact.add (value self) (exact.neg (value other))) };
+        ensures { Exactly exact value result (exact.add (value self) (exact.neg (value other))) }
+    {
+        Self::from_plain(self.plain().minus(other.plain()))
+    }
 
     fn mul(self, other: Self) -> Result<Self, RingFault>
         ensures { Exactly exact value result (exact.mul (value self) (value other)) };
@@ -86,9 +101,16 @@ pub trait Ring: Copy + PartialEq {
     fn conj(self) -> Result<Self, RingFault>
         ensures { Exactly exact value result (exact.conj (value self)) };
 
-    // 1 above the real axis, 0 on it, -1 below.
+    // 1 above the real axis, 0 on it, -1 below: a number and no enum, since the laws of a ring turn its sign.
     fn height(self) -> Result<i8, RingFault>
-        ensures { HeightOf exact result (value self) };
+        ensures { HeightOf exact result (value self) }
+    {
+        Self::height_of(self.plain())
+    }
+
+    // The height of any d coefficients.
+    fn height_of(plain: Self::Plain) -> Result<i8, RingFault>
+        ensures { HeightOf exact result (exact.of (listed plain)) };
 
     // What the segment to `to` sweeps over, as seen from 0.
     fn sweep(self, to: Self) -> Self::Sweep
@@ -96,12 +118,26 @@ pub trait Ring: Copy + PartialEq {
 
     // Coefficient k of a sweep, read as signed, 0 from d on.
     fn sweep_coefficient(s: Self::Sweep, k: usize) -> i64
-        ensures { result ≡ (total s k).at };
+        ensures { result ≡ (total s k).at }
+    {
+        Self::swept(s).number(k)
+    }
 
     fn sweep_height(s: Self::Sweep) -> Result<i8, RingFault>
-        ensures { HeightOf exact result (read_total exact (total s)) };
+        ensures { HeightOf exact result (read_total exact (total s)) }
+    {
+        Self::height_of(Self::swept(s))
+    }
+
+    // The sweep's coefficients, read as signed.
+    fn swept(s: Self::Sweep) -> Self::Plain
+        ensures { listed result ≡ coefficients_from 0 exact.d (total s) };
 
     ghost lawful: { CyclotomicLaws exact };
+
+    ghost counts_turns: { N ≡ exact.n };
+
+    ghost counts_coefficients: { D ≡ exact.d };
 
     ghost bounded: { (z : Self) → OnPlane exact (value z) };
 
@@ -111,6 +147,11 @@ pub trait Ring: Copy + PartialEq {
     ghost listed_row: { (x : exact.Elem) → listed (row x) ≡ exact.list x };
 
     ghost row_listed: { (p : Self.Plain) → row (exact.of (listed p)) ≡ p };
+
+    // plain rows are of d coefficients, and are listed as rows are
+    ghost plain_length: { Self.Plain.Coefficients.D ≡ exact.d };
+
+    ghost plain_listed: { (p : Self.Plain) → listed p ≡ Self.Plain.Coefficients.at p };
 
     ghost tied: { TiedToTotals Self.Sweep.Group.group Self.Sweep.Group.worth total };
 

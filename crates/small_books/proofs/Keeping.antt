@@ -15,7 +15,7 @@ use Rattle.chains.specs.Edges.{Edge, Chain, along, edge, step_count, walk, corne
 use Rattle.chains.specs.Inflation.{stepped, subdivided, inflate}
 use Rattle.chains.specs.Placements.{image, placed, placed_entry, placed_edge, outline, placed_outline, outlines}
 use Rattle.chains.specs.Accepted.{lengths, total_sweep}
-use Rattle.edges.specs.Limits.{most_parts, most_steps}
+use Rattle.job_rows.specs.Limits.{most_parts, most_steps}
 use Rattle.edges.specs.Working.{KeptAlong, KeptImage, KeptForms, KeptWalk, KeptOutline, KeptPlacedOutline, KeptSubdivided}
 use Rattle.book.specs.Points.{KeptFactor, KeptLength, KeptLengths, KeptSubdivision, KeptRound, KeptBalance}
 use Rattle.book.proofs.Added.{zero_within}

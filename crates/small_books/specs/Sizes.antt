@@ -4,7 +4,7 @@ use Rattle.std.specs.List.{AllByRecursion}
 use Rattle.exact.specs.Cyclotomic.{Cyclotomic}
 use Rattle.exact.specs.Sizes.{Within}
 use Rattle.chains.specs.Books.{Book, label_at, tile_at}
-use Rattle.edges.specs.Limits.{most_parts, most_steps}
+use Rattle.job_rows.specs.Limits.{most_parts, most_steps}
 use Rattle.book.specs.Points.{WorkedOnThePlane}
 use Rattle.book.specs.declared.fault.BookFault.{BookFault}
 use Rattle.book.specs.declared.fault.BookFault.TheVariants.{Factor, Length, Subdivision, Outline, Unbalanced, Ring, Memory}

@@ -16,17 +16,15 @@ use rings::sizes::SmallRing;
 use std::alloc::Global;
 
 // Every value that the check of such a book works out is on the plane.
-pub fn small_books_stay_on_the_plane<R: SmallRing>() -> u8
+pub fn small_books_stay_on_the_plane<R: SmallRing>()
     ensures { SmallBooksStayOnThePlane R.Ring.exact }
-{
-    0
-}
+{}
 
 // The check of a book. Where the book's coefficients are small the ring never refuses, so that exactly the accepted books pass.
 pub fn check_small<R: SmallRing>(heap: Global, book: &Book<R>) -> Result<(), BookFault<R>>
-    ensures first { Judged R.Ring.exact (book_view R.Ring.exact R.Ring.value book.now) R.Ring.value result (points R.Ring.exact (book_view R.Ring.exact R.Ring.value book.now)) }
-    ensures decides { Small R.Ring.exact (book_view R.Ring.exact R.Ring.value book.now) →
-        MatchResult result (λ _. Accepted R.Ring.exact (book_view R.Ring.exact R.Ring.value book.now)) (NotAccepted (Accepted R.Ring.exact (book_view R.Ring.exact R.Ring.value book.now))) }
+    ensures first { let B = book_view R.Ring.exact R.Ring.value book.now in Judged R.Ring.exact B R.Ring.value result (points R.Ring.exact B) }
+    ensures decides { let B = book_view R.Ring.exact R.Ring.value book.now in Small R.Ring.exact B →
+        MatchResult result (λ _. Accepted R.Ring.exact B) (NotAccepted (Accepted R.Ring.exact B)) }
 {
     check(heap, book)
 }

@@ -1,8 +1,8 @@
 // Jobs over a ring: their check, and where their nodes lie, asked of each placer.
-use edges::rows::Placement;
+use crate::books::{chair, penrose};
+use edges::rows::Placed;
 use gaussian::Gaussian;
 use job_check::check::judged;
-use jobs::job::Job;
 use jobs::reading::read;
 use nodes::address::Address;
 use nodes::fault::PlaceFault;
@@ -18,37 +18,9 @@ use std::process::Abort;
 use std::test::Fail;
 use tenfold::Tenfold;
 
-fn chair() -> &'static str {
-    concat!(
-        "R 4\nI 2 0\nL 0 1 0\nS 0 1 0 1\n",
-        "T 0 1 0 0 1 0 0 1 1 0 1 2 0 1 1 0 1 2 0 1 3 0 1 3\n",
-        "C 0 0 0 0 0\nC 0 0 0 1 1\nC 0 1 0 4 0\nC 0 3 0 0 4\n",
-        "D 1\nP 0 0 0 0 0\n",
-    )
-}
-
-fn penrose() -> &'static str {
-    concat!(
-        "R 10\nI 1 0 1 -1\nL 1 1 0 1 -1\nL 1 1 0 0 0\nS 0 1 1 1\nS 0 1\n",
-        "T 0 0 0 1 1 3 0 0 6\nC 0 4 1 2 0 1 -1\nC 0 4 0 2 0 1 -1\nC 1 1 1 0 0 0 0\n",
-        "T 0 1 0 1 1 4 1 1 6\nC 0 1 1 0 0 0 0\nC 1 4 0 2 0 1 -1\n",
-        "D 1\nP 0 0 0 0 0 0 0\n",
-    )
-}
-
-fn job_of(heap: Global, text: &str) -> Result<Job, Fail> {
-    match read(heap, text.as_bytes()) {
-        Ok(job) => Ok(job),
-        Err(_) => Err(Fail::new("the text is refused")),
-    }
-}
-
 fn judged_job<R: SmallRing>(heap: Global, text: &str) -> Result<RingJob<R>, Fail> {
-    let job = job_of(heap, text)?;
-    match judged(heap, &job) {
-        Ok(job) => Ok(job),
-        Err(_) => Err(Fail::new("the job is refused")),
-    }
+    let job = read(heap, text.as_bytes())?;
+    judged(heap, &job).map_err(|_| Fail::new("the job is refused"))
 }
 
 // The job may not be used over the ring: the refusal's number, place and layer are these.
@@ -60,10 +32,8 @@ fn refused<R: SmallRing>(
     place: usize,
     layer: Layer,
 ) -> Result<(), Fail> {
-    let job = job_of(heap, text)?;
-    let Some(f) = judged::<R>(heap, &job).err() else {
-        return Err(Fail::new("accepted"));
-    };
+    let job = read(heap, text.as_bytes())?;
+    let f = judged::<R>(heap, &job).err().ok_or("accepted")?;
     assert!(rt; f.number() == Some(number));
     assert!(rt; f.place() == place);
     assert!(rt; f.layer() == layer);
@@ -81,7 +51,7 @@ fn child(seed: u16, k: u8) -> Address {
 
 // Whether an answer is this placement.
 fn lies<R: Ring>(
-    answer: Result<Placement<R>, PlaceFault>,
+    answer: Result<Placed<R>, PlaceFault>,
     tile: usize,
     turn: u32,
     mirrored: bool,
@@ -90,19 +60,17 @@ fn lies<R: Ring>(
     let Ok(p) = answer else {
         return false;
     };
-    for k in 0..place.len() {
-        if p.place.coefficient(k) != place[k] {
-            return false;
-        }
-    }
-    p.tile == tile && p.turn == turn && p.mirrored == mirrored
+    p.tile == tile
+        && p.turn == turn
+        && p.mirrored == mirrored
+        && place
+            .iter()
+            .enumerate()
+            .all(|(k, c)| p.place.coefficient(k) == *c)
 }
 
-fn has_no_node<R: Ring>(answer: Result<Placement<R>, PlaceFault>) -> bool {
-    match answer {
-        Ok(_) => false,
-        Err(f) => f.number() == Some(3),
-    }
+fn has_no_node<R: Ring>(answer: Result<Placed<R>, PlaceFault>) -> bool {
+    answer.is_err_and(|f| f.number() == Some(3))
 }
 
 fn chair_children<P: Placer>(rt: &impl Abort, placer: &mut P) {

@@ -12,13 +12,8 @@ const BOUND: i64 = 1048576;
 
 // Whether z has these coefficients, and 0 behind them.
 fn is<R: Ring>(z: R, expected: &[i64]) -> bool {
-    for k in 0..R::rank() {
-        let c = if k < expected.len() { expected[k] } else { 0 };
-        if z.coefficient(k) != c {
-            return false;
-        }
-    }
-    z.coefficient(R::rank()) == 0
+    (0..R::D).all(|k| z.coefficient(k) == expected.get(k).copied().unwrap_or(0))
+        && z.coefficient(R::D) == 0
 }
 
 // Lists of any length are read, and the bound is the last that is.
@@ -48,13 +43,13 @@ fn the_bound_is_the_last_on_the_plane(rt: HostRuntime) -> Result<(), Fail> {
 fn turns<R: Ring>(rt: &impl Abort, list: &[i64]) -> Result<(), Fail> {
     let z = R::make(list)?;
     let mut w = z;
-    for _ in 0..R::order() {
+    for _ in 0..R::N {
         w = w.turn(1)?;
     }
     assert!(rt; w == z);
-    assert!(rt; z.turn(R::order() / 2)? == R::zero().sub(z)?);
+    assert!(rt; z.turn(R::N / 2)? == R::zero().sub(z)?);
     assert!(rt; z.turn(7)?.turn(5)? == z.turn(12)?);
-    assert!(rt; z.turn(4294967295)? == z.turn(4294967295 % R::order())?);
+    assert!(rt; z.turn(4294967295)? == z.turn(4294967295 % R::N)?);
     assert!(rt; z.conj()?.conj()? == z);
     Ok(())
 }
@@ -121,9 +116,9 @@ fn sweeps(rt: HostRuntime) -> Result<(), Fail> {
 
 #[test]
 fn a_ring_refuses_with_eight(rt: HostRuntime) -> Result<(), Fail> {
-    let Err(fault) = Gaussian::make(&[BOUND + 1]) else {
-        return Err(Fail::new("beyond the bound"));
-    };
+    let fault = Gaussian::make(&[BOUND + 1])
+        .err()
+        .ok_or("beyond the bound")?;
     assert_eq!(rt; fault.number(), Some(8));
     assert_eq!(rt; fault.place(), 0);
     assert_eq!(rt; fault.layer(), Layer::Ring);

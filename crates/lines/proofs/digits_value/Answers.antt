@@ -1,24 +1,12 @@
-use Rattle.std.proofs.Common.{◌+◌, ◌*◌, ◌<◌, ◌≤◌, length, get_or, ap, ◌∙◌, arith, rules}
-use Rattle.std.specs.Str.Parse.{digits_value}
-use Rattle.std.specs.Int.{IsInRange}
-use Rattle.std.proofs.lemmas.List.{take_all}
-use Rattle.lines.proofs.Decimal.{value_step, bound_step, below_power}
+use Rattle.std.proofs.Common.{◌≡◌, rules}
+use Rattle.lines.proofs.Decimal.{own, always_text, value_read, few_small}
+use Rattle.std.proofs.lemmas.Str.Parse.{parse_digits}
 use Rattle.lines.proofs.digits_value.Goals as goal
 
-pub overflow_mul-value : goal.overflow_mul-value
-overflow_mul-value c = let b = below_power _ _ c.loop-b.invariant.1 (omega arith) in search rules
-
-pub overflow_add-value : goal.overflow_add-value
-overflow_add-value c =
-    let b = below_power _ _ c.loop-b.invariant.1 (omega arith) in
-    let d : IsInRange 48 57 (get_or c.args.s.now c.loop-b.b-index 0) = search rules in
-    search rules
-
-pub loop-b-preserved : goal.loop-b-preserved
-loop-b-preserved c =
-    let d : IsInRange 48 57 (get_or c.args.s.now c.loop-b.b-index 0) = search rules in
-    let f : c.from.result < 10 = omega (arith, c.from.ensures) in
-    (ap (λ x. c.loop-b.value * 10 + x) c.from.ensures ∙ value_step _ _ _ c.loop-b-test.true d c.loop-b.invariant.0, bound_step _ _ _ c.loop-b.invariant.1 f)
+pub returns-in_err-ok : goal.returns-in_err-ok
+returns-in_err-ok c = absurd (always_text _ _ _ _ c.requires.1 c.from_utf8.ensures.cases c.in_err-ok.ensures.value)
 
 pub returns : goal.returns
-returns c = c.loop-b.invariant.0 ∙ (let h : length c.args.s.now ≤ c.loop-b.b-index = omega arith in ap (digits_value 10) (take_all c.loop-b.b-index c.args.s.now h))
+returns c =
+    let e : c.in_ok-ok.field-0.now ≡ c.args.digits.now = search rules in
+    rw c.ok-2.ensures.value (value_read _ _ (parse_digits own 32 c.args.digits.now _ (rw e at c.parse.ensures.value.0) c.requires.1) (few_small _ c.requires.1 c.requires.0))

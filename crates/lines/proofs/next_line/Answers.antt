@@ -1,9 +1,9 @@
-use Rattle.std.proofs.Common.{arith, rules}
+use Rattle.std.proofs.Common.{sym}
 use Rattle.lines.proofs.Cutting.{cut_at, ended}
 use Rattle.lines.proofs.next_line.Goals as goal
 
-pub returns-then-b-eq10 : goal.returns-then-b-eq10
-returns-then-b-eq10 c = search (rules, cut_at)
+pub returns-in_err-end : goal.returns-in_err-end
+returns-in_err-end c = rw c.from_residual.ensures (λ line rest e. ended _ line rest e (sym c.in_err-end.ensures))
 
 pub returns : goal.returns
-returns c line rest e = let h = ended _ line rest e in c.loop-i.invariant _ (omega arith) h.1
+returns c = cut_at _ _ (sym c.in_ok-end.ensures)

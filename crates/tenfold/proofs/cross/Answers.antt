@@ -1,18 +1,17 @@
 use Rattle.std.proofs.Common.{arith}
-use Rattle.rings.proofs.Bounds.{linear, times_is, times_small}
+use Rattle.rings.proofs.Bounds.{linear, product_at}
 use Rattle.tenfold.proofs.cross.Goals as goal
 
 pub overflow_sub-result : goal.overflow_sub-result
 overflow_sub-result c =
-    let s0 = times_small c.args.a c.args.d c.times.ensures.small c.requires.0 c.requires.1.1.1 in
-    let s1 = times_small c.args.b c.args.c c.times-2.ensures.small c.requires.1.0 c.requires.1.1.0 in
+    let f = product_at c.args.x.row.at c.args.y.row.at c.args.x.near c.args.y.near in
+    let s0 = f c.args.i c.args.j c.times.result c.times.ensures.exact c.times.ensures.small in
+    let s1 = f c.args.j c.args.i c.times-2.result c.times-2.ensures.exact c.times-2.ensures.small in
     omega (arith, linear)
 
 pub returns : goal.returns
 returns c =
-    let z = c.args in
-    let e0 = times_is z.a z.d c.times.ensures.exact c.requires.0 c.requires.1.1.1 in
-    let e1 = times_is z.b z.c c.times-2.ensures.exact c.requires.1.0 c.requires.1.1.0 in
-    let s0 = times_small c.args.a c.args.d c.times.ensures.small c.requires.0 c.requires.1.1.1 in
-    let s1 = times_small c.args.b c.args.c c.times-2.ensures.small c.requires.1.0 c.requires.1.1.0 in
+    let f = product_at c.args.x.row.at c.args.y.row.at c.args.x.near c.args.y.near in
+    let s0 = f c.args.i c.args.j c.times.result c.times.ensures.exact c.times.ensures.small in
+    let s1 = f c.args.j c.args.i c.times-2.result c.times-2.ensures.exact c.times-2.ensures.small in
     record { is = omega (arith, linear); small = (omega (arith, linear), omega (arith, linear)) }

@@ -1,26 +1,26 @@
 use Rattle.std.proofs.Common.{arith}
-use Rattle.rings.proofs.Bounds.{linear, times_is, times_small}
+use Rattle.rings.proofs.Bounds.{linear, product_at}
 use Rattle.tenfold.proofs.row0.Goals as goal
 
 pub overflow_sub-result : goal.overflow_sub-result
 overflow_sub-result c =
-    let s0 = times_small c.args.x.c0 c.args.y.c0 c.times.ensures.small c.args.x.near0 c.args.y.near0 in
-    let s1 = times_small c.args.x.c2 c.args.y.c3 c.times-2.ensures.small c.args.x.near2 c.args.y.near3 in
+    let f = product_at c.args.x.row.at c.args.y.row.at c.args.x.near c.args.y.near in
+    let s0 = f 0 0 c.times.result c.times.ensures.exact c.times.ensures.small in
+    let s1 = f 2 3 c.times-2.result c.times-2.ensures.exact c.times-2.ensures.small in
     omega (arith, linear)
 
 pub overflow_sub-result-2 : goal.overflow_sub-result-2
 overflow_sub-result-2 c =
-    let s0 = times_small c.args.x.c0 c.args.y.c0 c.times.ensures.small c.args.x.near0 c.args.y.near0 in
-    let s1 = times_small c.args.x.c2 c.args.y.c3 c.times-2.ensures.small c.args.x.near2 c.args.y.near3 in
-    let s2 = times_small c.args.x.c3 c.args.y.c2 c.times-3.ensures.small c.args.x.near3 c.args.y.near2 in
+    let f = product_at c.args.x.row.at c.args.y.row.at c.args.x.near c.args.y.near in
+    let s0 = f 0 0 c.times.result c.times.ensures.exact c.times.ensures.small in
+    let s1 = f 2 3 c.times-2.result c.times-2.ensures.exact c.times-2.ensures.small in
+    let s2 = f 3 2 c.times-3.result c.times-3.ensures.exact c.times-3.ensures.small in
     omega (arith, linear)
 
 pub returns : goal.returns
 returns c =
-    let e0 = times_is c.args.x.c0 c.args.y.c0 c.times.ensures.exact c.args.x.near0 c.args.y.near0 in
-    let e1 = times_is c.args.x.c2 c.args.y.c3 c.times-2.ensures.exact c.args.x.near2 c.args.y.near3 in
-    let e2 = times_is c.args.x.c3 c.args.y.c2 c.times-3.ensures.exact c.args.x.near3 c.args.y.near2 in
-    let s0 = times_small c.args.x.c0 c.args.y.c0 c.times.ensures.small c.args.x.near0 c.args.y.near0 in
-    let s1 = times_small c.args.x.c2 c.args.y.c3 c.times-2.ensures.small c.args.x.near2 c.args.y.near3 in
-    let s2 = times_small c.args.x.c3 c.args.y.c2 c.times-3.ensures.small c.args.x.near3 c.args.y.near2 in
+    let f = product_at c.args.x.row.at c.args.y.row.at c.args.x.near c.args.y.near in
+    let s0 = f 0 0 c.times.result c.times.ensures.exact c.times.ensures.small in
+    let s1 = f 2 3 c.times-2.result c.times-2.ensures.exact c.times-2.ensures.small in
+    let s2 = f 3 2 c.times-3.result c.times-3.ensures.exact c.times-3.ensures.small in
     record { is = omega (arith, linear); small = (omega (arith, linear), omega (arith, linear)) }

@@ -1,22 +1,26 @@
-use Rattle.std.proofs.Common.{arith}
-use lib.IntN.{+ℤ_idl}
+use Rattle.std.proofs.Common.{◌≡◌, pos, ◌+ℤ◌, ◌∙◌, arith, rules}
 use Rattle.std.proofs.lemmas.Int.{ints}
+use Rattle.std.proofs.lemmas.Iterator.{YieldsList-from_slice, YieldsList-from_map}
+use Rattle.std.proofs.lemmas.Iterator.Adapters.{total_from_yields_List}
+use Rattle.chains.specs.Counts.{tally}
 use Rattle.chains.specs.Edges.{same_edge}
-use Rattle.edges.specs.Views.{counted_view, edge_view}
-use Rattle.book.proofs.Tallying.{tally_more, tally_end, sum_end}
+use Rattle.edges.specs.Views.{counted_view, chain_view, edge_view}
+use Rattle.book.proofs.Tallying.{Near, share_of, total, tally_small, sum_fits, count_small}
 use Rattle.book.proofs.nets.net.Goals as goal
 
-pub loop-x-init : goal.loop-x-init
-loop-x-init g c = (omega (arith, ints), omega (arith, ints), +ℤ_idl _)
-
-pub loop-x-preserved : goal.loop-x-preserved
-loop-x-preserved g c =
-    let E = g.R.Ring.exact in
-    let t = tally_more (same_edge E) (counted_view E g.R.Ring.value) c.args.chain.now c.loop-x.x-index c.x-item.result c.loop-x-test.true c.x-item.is (edge_view E g.R.Ring.value c.args.e.now) in
-    (omega (arith, ints), omega (arith, ints), omega (arith, ints))
+pub sum-requires-clause-fits : goal.sum-requires-clause-fits
+sum-requires-clause-fits g c =
+    let E = g.R.Ring.exact in let v = g.R.Ring.value in
+    sum_fits (same_edge E) (counted_view E v) (edge_view E v c.args.e.now) (λ x. count_small x.back) _ _ c.args.chain.now c.requires
+    (YieldsList-from_map _ (share_of (same_edge E) (counted_view E v) (edge_view E v c.args.e.now)) (YieldsList-from_slice c.args.chain.now cc) c.map.ensures.closure (λ x r q k. search rules))
 
 pub returns : goal.returns
 returns g c =
-    let E = g.R.Ring.exact in
-    let t = tally_end (same_edge E) (counted_view E g.R.Ring.value) c.args.chain.now c.loop-x.x-index c.loop-x-test.false (edge_view E g.R.Ring.value c.args.e.now) in
-    record { is = sum_end _ _ _ c.loop-x.invariant.2 t; low = omega (arith, ints); high = omega (arith, ints) }
+    let E = g.R.Ring.exact in let v = g.R.Ring.value in
+    let e = edge_view E v c.args.e.now in
+    let s : c.sum.result ≡ tally (same_edge E) (chain_view E v c.args.chain.now) e =
+    total_from_yields_List ◌+ℤ◌ (pos 0) c.sum.result c.sum.ensures.ran
+    (YieldsList-from_map _ (share_of (same_edge E) (counted_view E v) e) (YieldsList-from_slice c.args.chain.now cc) c.map.ensures.closure (λ x r q k. search rules))
+    ∙ total (same_edge E) (counted_view E v) e c.args.chain.now (pos 0) ∙ omega (arith, ints) in
+    let b : Near _ (tally (same_edge E) (chain_view E v c.args.chain.now) e) = tally_small (same_edge E) (counted_view E v) e (λ x. count_small x.back) c.args.chain.now in
+    record { is = omega (arith, ints); low = omega (arith, ints); high = omega (arith, ints) }

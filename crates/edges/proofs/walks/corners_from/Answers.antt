@@ -1,7 +1,8 @@
 use Rattle.std.proofs.Common.{◌+◌, false, ◌++◌, map, drop, vec_items, sym, ap, ◌∙◌, subst, append-nil}
 use Rattle.chains.specs.Edges.{corners}
 use Rattle.job_rows.specs.declared.Step.{Step}
-use Rattle.edges.specs.Views.{step_view, book_view}
+use Rattle.edges.specs.Views.{book_view}
+use Rattle.job_rows.specs.Shapes.{step_of}
 use Rattle.edges.specs.Working.{KeptWalk}
 use Rattle.edges.proofs.Gather.{pushed, off_plane, no_memory}
 use Rattle.edges.proofs.Walking.{corners_more, corners_none, kept_more, kept_back, kept_none}
@@ -23,7 +24,7 @@ loop-s-preserved g c =
     let i = c.loop-s.s-index in
     let q = v c.loop-s.q in
     let h = c.in_ok-q.ensures.is in
-    let rest = map step_view (drop (i + 1) steps) in (
+    let rest = map step_of (drop (i + 1) steps) in (
       ap (λ z. map v (vec_items c.push.new.self) ++ corners E B rest z) h.0
           ∙ pushed v (vec_items c.loop-s.out) (vec_items c.push.new.self) _ _ _ _ c.in_ok-push.ensures.items h.0
           (ap (λ l. map v (vec_items c.loop-s.out) ++ l) (sym (corners_more E B steps i none q c.loop-s-test.true)) ∙ c.loop-s.invariant.0),

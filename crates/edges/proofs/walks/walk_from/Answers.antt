@@ -1,7 +1,8 @@
 use Rattle.std.proofs.Common.{◌+◌, false, ◌++◌, map, drop, vec_items, sym, ap, ◌∙◌, subst, append-nil}
 use Rattle.chains.specs.Edges.{walk}
 use Rattle.job_rows.specs.declared.Step.{Step}
-use Rattle.edges.specs.Views.{chain_view, counted_view, step_view, book_view}
+use Rattle.edges.specs.Views.{chain_view, counted_view, book_view}
+use Rattle.job_rows.specs.Shapes.{step_of}
 use Rattle.edges.specs.Working.{KeptWalk}
 use Rattle.edges.proofs.Gather.{pushed, off_plane, no_memory}
 use Rattle.edges.proofs.Walking.{walk_more, walk_none, kept_more, kept_back, kept_none}
@@ -23,7 +24,7 @@ loop-s-preserved g c =
     let i = c.loop-s.s-index in
     let q = v c.loop-s.q in
     let h = c.in_ok-step.ensures.is in
-    let rest = map step_view (drop (i + 1) steps) in (
+    let rest = map step_of (drop (i + 1) steps) in (
       ap (λ z. chain_view E v (vec_items c.push.new.self) ++ walk E B rest z) h.0.1
           ∙ pushed (counted_view E v) (vec_items c.loop-s.out) (vec_items c.push.new.self) _ _ _ _ c.in_ok-push.ensures.items h.0.0
           (ap (λ l. chain_view E v (vec_items c.loop-s.out) ++ l) (sym (walk_more E B steps i none q c.loop-s-test.true)) ∙ c.loop-s.invariant.0),

@@ -1,30 +1,27 @@
 use Rattle.std.proofs.Common.{arith}
 use Rattle.exact.proofs.Coefficients.{pair_same}
-use Rattle.rings.proofs.Bounds.{recast, linear, times_is, times_small}
+use Rattle.rings.proofs.Bounds.{recast, linear, product_at}
 use Rattle.gaussian.proofs.GaussianRing.mul.Goals as goal
 
 pub overflow_sub-times : goal.overflow_sub-times
 overflow_sub-times c =
-    let s0 = times_small c.args.self.c0 c.args.other.c0 c.times.ensures.small c.args.self.near0 c.args.other.near0 in
-    let s1 = times_small c.args.self.c1 c.args.other.c1 c.times-2.ensures.small c.args.self.near1 c.args.other.near1 in
+    let f = product_at c.args.self.row.at c.args.other.row.at c.args.self.near c.args.other.near in
+    let s0 = f 0 0 c.times.result c.times.ensures.exact c.times.ensures.small in
+    let s1 = f 1 1 c.times-2.result c.times-2.ensures.exact c.times-2.ensures.small in
     omega (arith, linear)
 
 pub overflow_add-times : goal.overflow_add-times
 overflow_add-times c =
-    let s2 = times_small c.args.self.c0 c.args.other.c1 c.times-3.ensures.small c.args.self.near0 c.args.other.near1 in
-    let s3 = times_small c.args.self.c1 c.args.other.c0 c.times-4.ensures.small c.args.self.near1 c.args.other.near0 in
+    let f = product_at c.args.self.row.at c.args.other.row.at c.args.self.near c.args.other.near in
+    let s0 = f 0 1 c.times-3.result c.times-3.ensures.exact c.times-3.ensures.small in
+    let s1 = f 1 0 c.times-4.result c.times-4.ensures.exact c.times-4.ensures.small in
     omega (arith, linear)
 
 pub returns : goal.returns
 returns c =
-    let x = c.args.self in
-    let y = c.args.other in
-    let a = times_is x.c0 y.c0 c.times.ensures.exact x.near0 y.near0 in
-    let b = times_is x.c1 y.c1 c.times-2.ensures.exact x.near1 y.near1 in
-    let d = times_is x.c0 y.c1 c.times-3.ensures.exact x.near0 y.near1 in
-    let e = times_is x.c1 y.c0 c.times-4.ensures.exact x.near1 y.near0 in
-    let s0 = times_small c.args.self.c0 c.args.other.c0 c.times.ensures.small c.args.self.near0 c.args.other.near0 in
-    let s1 = times_small c.args.self.c1 c.args.other.c1 c.times-2.ensures.small c.args.self.near1 c.args.other.near1 in
-    let s2 = times_small c.args.self.c0 c.args.other.c1 c.times-3.ensures.small c.args.self.near0 c.args.other.near1 in
-    let s3 = times_small c.args.self.c1 c.args.other.c0 c.times-4.ensures.small c.args.self.near1 c.args.other.near0 in
-    recast c.kept.ensures (pair_same _ _ (omega (arith, linear)) (omega (arith, linear)))
+    let f = product_at c.args.self.row.at c.args.other.row.at c.args.self.near c.args.other.near in
+    let s0 = f 0 0 c.times.result c.times.ensures.exact c.times.ensures.small in
+    let s1 = f 1 1 c.times-2.result c.times-2.ensures.exact c.times-2.ensures.small in
+    let s2 = f 0 1 c.times-3.result c.times-3.ensures.exact c.times-3.ensures.small in
+    let s3 = f 1 0 c.times-4.result c.times-4.ensures.exact c.times-4.ensures.small in
+    recast c.from_plain.ensures (pair_same _ _ (omega (arith, linear)) (omega (arith, linear)))

@@ -5,7 +5,7 @@ use Rattle.lines.specs.Letters.{letter_P}
 use Rattle.jobs.specs.Drafts.{front}
 use Rattle.jobs.specs.Fronts.{Place}
 use Rattle.jobs.specs.Rows.{placed_of}
-use Rattle.jobs.proofs.Adds.{unfit_seed, no_tile, set_seeds}
+use Rattle.jobs.proofs.Adds.{unfit_seed, placed_at, no_tile, set_seeds}
 use Rattle.jobs.proofs.adding.add_seed.Goals as goal
 
 pub returns-then-is_none : goal.returns-then-is_none
@@ -15,7 +15,7 @@ pub returns-in_err-seed : goal.returns-in_err-seed
 returns-in_err-seed c =
     let p = err_from_is_err_and c.from_residual.result c.from_residual.ensures.1 in
     let place : Place (front c.args.draft.now) letter_P = search (rules, length-map) in
-    rw (p.1, p.2) (unfit_seed _ _ _ _ place c.in_err-seed.ensures)
+    rw (p.1, p.2) (unfit_seed _ _ _ _ _ _ place c.order.ensures c.rank.ensures c.in_err-seed.ensures)
 
 pub returns-then-seed-len : goal.returns-then-seed-len
 returns-then-seed-len c =
@@ -28,4 +28,4 @@ returns c =
     let place : Place (front c.args.draft.now) letter_P = search (rules, length-map) in
     let e = ap (map placed_of) c.in_ok-push.ensures.items ∙ map_push placed_of (vec_items c.args.draft.now.seeds) c.in_ok-seed.seed in
     let l : c.in_ok-seed.seed.tile < length (front c.args.draft.now).tiles = search (rules, length-map) in
-    (place, (placed_of c.in_ok-seed.seed, (l, c.in_ok-seed.ensures.0), c.in_ok-seed.ensures.1, ap (set_seeds (front c.args.draft.now)) e))
+    (place, (placed_of c.in_ok-seed.seed, (l, placed_at _ _ _ _ (placed_of c.in_ok-seed.seed) c.order.ensures c.rank.ensures c.in_ok-seed.ensures.0), c.in_ok-seed.ensures.1, ap (set_seeds (front c.args.draft.now)) e))

@@ -25,29 +25,29 @@ pub beyond_tile-requires : goal.beyond_tile-requires
 beyond_tile-requires c =
     let d = c.in_ok-draft.draft in
     let u = read_up c.args.text.now (front d) c.if-text-gt-MOST_BYTES.false c.in_ok-draft.ensures in
-    let n : c.len.result ≡ length (vec_items d.labels) = search rules in
+    let n : c.len.result ≡ length (vec_items d.heads) = search rules in
     room_of c.args.text.now d c.len.result c.as_slice.result.now u n c.as_slice.ensures.value
 
 pub of-requires : goal.of-requires
 of-requires c =
     let d = c.in_ok-draft.draft in
     let u = read_up c.args.text.now (front d) c.if-text-gt-MOST_BYTES.false c.in_ok-draft.ensures in
-    let n : c.len.result ≡ length (vec_items d.labels) = search rules in
+    let n : c.len.result ≡ length (vec_items d.heads) = search rules in
     (u.all_named (sym (c.in-None.ensures ∙ late_of d c.len.result c.as_slice.result.now n c.as_slice.ensures.value)), u.paired)
 
 pub returns-in-Some : goal.returns-in-Some
 returns-in-Some c =
     let d = c.in_ok-draft.draft in
     let u = read_up c.args.text.now (front d) c.if-text-gt-MOST_BYTES.false c.in_ok-draft.ensures in
-    let n : c.len.result ≡ length (vec_items d.labels) = search rules in
+    let n : c.len.result ≡ length (vec_items d.heads) = search rules in
     let a : Refused c.args.text.now 3 c.in-Some.line = u.late_at c.in-Some.line (sym (c.in-Some.ensures ∙ late_of d c.len.result c.as_slice.result.now n c.as_slice.ensures.value)) in
     record { answer = a; accepts = accepts_of (Err (Unfit c.in-Some.line)) c.args.text.now a; refuses = refuses_of (Err (Unfit c.in-Some.line)) c.args.text.now a }
 
-pub returns-in-None : goal.returns-in-None
-returns-in-None c =
+pub returns-in_ok-of-in-None : goal.returns-in_ok-of-in-None
+returns-in_ok-of-in-None c =
     let d = c.in_ok-draft.draft in
     let u = read_up c.args.text.now (front d) c.if-text-gt-MOST_BYTES.false c.in_ok-draft.ensures in
-    let n : c.len.result ≡ length (vec_items d.labels) = search rules in
+    let n : c.len.result ≡ length (vec_items d.heads) = search rules in
     let i = u.all_named (sym (c.in-None.ensures ∙ late_of d c.len.result c.as_slice.result.now n c.as_slice.ensures.value)) in
-    let a : (c.args.text.now ≡ spelled (numbers c.of.result)) × InRange (numbers c.of.result) = spelled_of c.args.text.now (front d) (numbers c.of.result) u i c.of.ensures in
-    record { answer = a; accepts = accepts_of (Ok c.of.result) c.args.text.now a; refuses = refuses_of (Ok c.of.result) c.args.text.now a }
+    let a : (c.args.text.now ≡ spelled (numbers c.in_ok-of-in-None.field-0)) × InRange (numbers c.in_ok-of-in-None.field-0) = spelled_of c.args.text.now (front d) (numbers c.in_ok-of-in-None.field-0) u i c.in_ok-of-in-None.ensures in
+    record { answer = a; accepts = accepts_of (Ok c.in_ok-of-in-None.field-0) c.args.text.now a; refuses = refuses_of (Ok c.in_ok-of-in-None.field-0) c.args.text.now a }

@@ -1,5 +1,5 @@
 use Rattle.std.proofs.Common.{◌≡◌, map, drop}
-use Rattle.jobs.specs.Rows.{step_of}
+use Rattle.job_rows.specs.Shapes.{step_of}
 use Rattle.edges.specs.Views.{placement_view, book_view}
 use Rattle.nodes.specs.OnPlane.{kept_corners_from}
 use Rattle.nodes.proofs.composing.corners_along.Given as goal

@@ -1,28 +1,24 @@
-use Rattle.std.proofs.Common.{◌+◌, ◌≤◌, length, get_or, take, drop, sym, ◌∙◌, arith}
+use Rattle.std.proofs.Common.{◌+◌, drop, sym, ap, ◌∙◌}
 use Rattle.chains.specs.Addresses.{leads_down}
 use Rattle.ring_jobs.specs.RingJobs.{job_numbers}
-use Rattle.nodes.proofs.Paths.{path_more, path_end, leads_on, leads_nowhere}
+use Rattle.nodes.proofs.Paths.{next_child, no_child_left, leads_on, leads_nowhere}
 use Rattle.nodes.proofs.placing.path_leads_down.Goals as goal
 
 pub returns-in-None : goal.returns-in-None
 returns-in-None g c =
     let N = job_numbers g.R.Ring.exact g.R.Ring.value c.args.job.now in
-    let a = c.args.at.now in let i = c.loop-i.i in
-    let long : a.level ≤ length a.path = omega arith in
-    sym (c.loop-i.invariant ∙ path_more a.path a.level i (leads_down N c.loop-i.tile) c.loop-i-test.true long ∙ leads_nowhere N c.loop-i.tile (get_or a.path i 0) _ c.in-None.ensures)
+    let path = c.args.children.now in let i = c.loop-k.k-index in let t = c.loop-k.tile in let k = c.from.result in
+    sym (c.loop-k.invariant ∙ ap (leads_down N t) (next_child path i k c.loop-k-test.true c.from.ensures) ∙ leads_nowhere N t k (drop (i + 1) path) c.in-None.ensures)
 
-pub loop-i-preserved : goal.loop-i-preserved
-loop-i-preserved g c =
+pub loop-k-preserved : goal.loop-k-preserved
+loop-k-preserved g c =
     let N = job_numbers g.R.Ring.exact g.R.Ring.value c.args.job.now in
-    let a = c.args.at.now in let i = c.loop-i.i in
-    let long : a.level ≤ length a.path = omega arith in
+    let path = c.args.children.now in let i = c.loop-k.k-index in let t = c.loop-k.tile in let k = c.from.result in
     let h = c.in-Some.ensures in
-    c.loop-i.invariant ∙ path_more a.path a.level i (leads_down N c.loop-i.tile) c.loop-i-test.true long ∙ leads_on N c.loop-i.tile (get_or a.path i 0) (drop (i + 1) (take a.level a.path)) _ h.0 h.1
+    c.loop-k.invariant ∙ ap (leads_down N t) (next_child path i k c.loop-k-test.true c.from.ensures) ∙ leads_on N t k (drop (i + 1) path) _ h.0 h.1
 
 pub returns : goal.returns
 unfolding leads_down
 returns g c =
     let N = job_numbers g.R.Ring.exact g.R.Ring.value c.args.job.now in
-    let a = c.args.at.now in
-    let long : a.level ≤ length a.path = omega arith in
-    sym (c.loop-i.invariant ∙ path_end a.path a.level c.loop-i.i (leads_down N c.loop-i.tile) c.loop-i-test.false long)
+    sym (c.loop-k.invariant ∙ ap (leads_down N c.loop-k.tile) (no_child_left c.args.children.now c.loop-k.k-index c.loop-k-test.false))

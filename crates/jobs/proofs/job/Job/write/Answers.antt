@@ -1,21 +1,16 @@
-use Rattle.std.proofs.Common.{◌++◌, drop, refl, ap, ◌∙◌}
-use Rattle.jobs.specs.Jobs.{numbers}
-use Rattle.jobs.specs.Spelled.{spelled}
-use Rattle.jobs.proofs.Wholes.{job_short}
-use Rattle.jobs.proofs.Writes.{Sheet, sheet_of, too_short}
+use Rattle.std.proofs.Common.{◌<◌, ◌++◌, length, drop, refl, ap, subst, ◌∙◌}
+use Rattle.jobs.proofs.Wholes.{never_full, on_sheet}
 use Rattle.jobs.proofs.job.Job.write.Goals as goal
 
-pub returns-then-length-buffer : goal.returns-then-length-buffer
-returns-then-length-buffer c =
-    let s : Sheet (spelled (numbers c.args.self.now)) c.put-length.new.out c.put-length.result = sheet_of (spelled (numbers c.args.self.now)) _ _ _ (job_short c.args.self.now) c.put-length.ensures in
-    (too_short _ _ _ _ s c.if-length-buffer.true, refl)
+pub returns-in_err-put : goal.returns-in_err-put
+returns-in_err-put c = absurd (never_full c.args.self.now _ c.new-sheet.ensures c.in_err-put.ensures)
 
-pub copy_front-requires : goal.copy_front-requires
-copy_front-requires c =
-    let s : Sheet (spelled (numbers c.args.self.now)) c.put-length.new.out c.put-length.result = sheet_of (spelled (numbers c.args.self.now)) _ _ _ (job_short c.args.self.now) c.put-length.ensures in
-    (c.if-length-buffer.false, s.within)
+pub returns-then-text-buffer : goal.returns-then-text-buffer
+returns-then-text-buffer c =
+    let text = c.as_slice-text.ensures.value ∙ on_sheet c.args.self.now _ _ c.new-sheet.ensures c.in_ok-put.ensures in
+    (subst (λ t. length c.args.buffer.now < length t) text c.if-text-buffer.true, refl)
 
 pub returns : goal.returns
 returns c =
-    let s : Sheet (spelled (numbers c.args.self.now)) c.put-length.new.out c.put-length.result = sheet_of (spelled (numbers c.args.self.now)) _ _ _ (job_short c.args.self.now) c.put-length.ensures in
-    (s.place, c.if-length-buffer.false, c.copy_front.ensures ∙ ap (λ x. x ++ drop c.put-length.result c.args.buffer.now) s.bytes)
+    let text = c.as_slice-text.ensures.value ∙ on_sheet c.args.self.now _ _ c.new-sheet.ensures c.in_ok-put.ensures in
+    (ap length text, c.if-text-buffer.false, ap (λ t. t ++ drop (length c.as_slice-text.result.now) c.args.buffer.now) (c.copy_from_slice.ensures.after ∙ text))
