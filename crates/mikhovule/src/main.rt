@@ -1,14 +1,20 @@
-// Reads a job from standard input and tells it in words. A refused job gives the one line `refused N P`, and status 1.
+// Reads a job from standard input, judges its book over the ring that it names, and tells it in words.
+// A refused job gives the one line `refused N P`, and status 1.
 #![tactic(auto)]
 
 mod words;
 
 use anyhow::anyhow;
-use faults::TextFault;
+use gaussian::Gaussian;
+use job_check::check::judged;
+use jobs::job::Job;
 use jobs::reading::read;
+use jobs::ring::NamedRing;
 use refusals::Fault;
+use rings::sizes::SmallRing;
 use std::io::Read;
 use std::process::ExitCode;
+use tenfold::Tenfold;
 use words::InWords;
 
 // One byte more than a text may have is enough to refuse it.
@@ -22,7 +28,7 @@ fn input(rt: &HostRuntime) -> anyhow::Result<Vec<u8>> {
     Ok(text)
 }
 
-fn refused(rt: &HostRuntime, fault: TextFault) -> anyhow::Result<ExitCode> {
+fn refused(rt: &HostRuntime, fault: &impl Fault) -> anyhow::Result<ExitCode> {
     let place = fault.place();
     match fault.number() {
         Some(number) => {
@@ -33,13 +39,22 @@ fn refused(rt: &HostRuntime, fault: TextFault) -> anyhow::Result<ExitCode> {
     }
 }
 
+// The job in words, where its book is accepted over the ring.
+fn tell<R: SmallRing>(rt: &HostRuntime, job: &Job) -> anyhow::Result<ExitCode> {
+    if let Some(fault) = judged::<R>(rt.alloc(), job).err() {
+        return refused(rt, &fault);
+    }
+    print!(rt; "{}", InWords(job))?;
+    Ok(ExitCode::SUCCESS)
+}
+
 fn main(rt: HostRuntime) -> anyhow::Result<ExitCode> {
     let text = input(&rt)?;
     match read(rt.alloc(), text.as_slice()) {
-        Ok(job) => {
-            print!(rt; "{}", InWords(&job))?;
-            Ok(ExitCode::SUCCESS)
-        }
-        Err(fault) => refused(&rt, fault),
+        Ok(job) => match job.ring {
+            NamedRing::Gaussian => tell::<Gaussian>(&rt, &job),
+            NamedRing::Tenfold => tell::<Tenfold>(&rt, &job),
+        },
+        Err(fault) => refused(&rt, &fault),
     }
 }

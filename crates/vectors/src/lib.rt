@@ -4,6 +4,8 @@
 ghost use Rattle.vectors.specs.Cases.{EveryCaseHolds, fixed_cases};
 
 #[cfg(test)]
+mod book_cases;
+#[cfg(test)]
 mod books;
 #[cfg(test)]
 mod job_cases;
