@@ -50,7 +50,7 @@ fn child(seed: u16, k: u8) -> Address {
 }
 
 // Whether an answer is this placement.
-fn lies<R: Ring>(
+pub(crate) fn lies<R: Ring>(
     answer: Result<Placed<R>, PlaceFault>,
     tile: usize,
     turn: u32,

@@ -10,6 +10,8 @@ mod books;
 #[cfg(test)]
 mod job_cases;
 #[cfg(test)]
+mod node_cases;
+#[cfg(test)]
 mod ring_cases;
 mod texts;
 
