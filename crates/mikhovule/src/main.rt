@@ -2,6 +2,7 @@
 // A refused job gives the one line `refused N P`, and status 1.
 #![tactic(auto)]
 
+mod nodes_in_words;
 mod words;
 
 use anyhow::anyhow;
@@ -10,6 +11,10 @@ use job_check::check::judged;
 use jobs::job::Job;
 use jobs::reading::read;
 use jobs::ring::NamedRing;
+use nodes_in_words::tell_nodes;
+use placer::descent::Descent;
+use placer::memo::Memo;
+use placer::placer::Placer;
 use refusals::Fault;
 use rings::sizes::SmallRing;
 use std::io::Read;
@@ -39,13 +44,23 @@ fn refused(rt: &HostRuntime, fault: &impl Fault) -> anyhow::Result<ExitCode> {
     }
 }
 
-// The job in words, where its book is accepted over the ring.
+// The job in words, and then its nodes at level 1, where its book is accepted over the ring.
 fn tell<R: SmallRing>(rt: &HostRuntime, job: &Job) -> anyhow::Result<ExitCode> {
-    if let Some(fault) = judged::<R>(rt.alloc(), job).err() {
-        return refused(rt, &fault);
+    match judged::<R>(rt.alloc(), job) {
+        Ok(over) => {
+            print!(rt; "{}", InWords(job))?;
+            let mut placer = Memo::new(Descent::new(over));
+            tell_placed(rt, job, &mut placer)
+        }
+        Err(fault) => refused(rt, &fault),
     }
-    print!(rt; "{}", InWords(job))?;
-    Ok(ExitCode::SUCCESS)
+}
+
+fn tell_placed<P: Placer>(rt: &HostRuntime, job: &Job, placer: &mut P) -> anyhow::Result<ExitCode> {
+    match tell_nodes(rt, placer, job)? {
+        None => Ok(ExitCode::SUCCESS),
+        Some(fault) => refused(rt, &fault),
+    }
 }
 
 fn main(rt: HostRuntime) -> anyhow::Result<ExitCode> {
