@@ -1,4 +1,5 @@
 // The nodes of a job in words: each seed's children at level 1, or the seeds themselves at depth 0.
+use crate::words::Lying;
 use edges::rows::Placed;
 use jobs::job::Job;
 use nodes::address::{Address, PATH_LENGTH};
@@ -48,14 +49,17 @@ impl Display for Name<'_> {
 // One node in a line.
 fn tell_node<R: Ring>(rt: &HostRuntime, at: &Address, node: &Placed<R>) -> anyhow::Result<()> {
     let name = Name(at);
-    let tile = node.tile;
-    let turn = node.turn;
-    let mirrored = if node.mirrored { "mirrored, " } else { "" };
-    let place = Position(&node.place);
-    println!(rt; "node {name}: tile {tile}, {mirrored}turned by {turn}, at {place}")?;
+    let lying = Lying {
+        tile: node.tile,
+        turn: node.turn,
+        mirrored: node.mirrored,
+        place: Position(&node.place),
+    };
+    println!(rt; "node {name}: {lying}")?;
     Ok(())
 }
 
+// The address of a seed's child k.
 fn child(seed: u16, k: u8) -> Address {
     let mut path = [0; PATH_LENGTH];
     path[0] = k;

@@ -52,20 +52,38 @@ impl Display for Tiles<'_> {
     }
 }
 
+// Where a tile lies, with its place as it is told.
+#[derive(Clone, Copy)]
+pub(crate) struct Lying<P> {
+    pub(crate) tile: usize,
+    pub(crate) turn: u32,
+    pub(crate) mirrored: bool,
+    pub(crate) place: P,
+}
+
+impl<P: Display> Display for Lying<P> {
+    fn fmt<W: fmt::Write>(&self, f: &mut fmt::Formatter<W>) -> fmt::Result {
+        let tile = self.tile;
+        let turn = self.turn;
+        let mirrored = if self.mirrored { "mirrored, " } else { "" };
+        let place = &self.place;
+        write!(f, "tile {tile}, {mirrored}turned by {turn}, at {place}")
+    }
+}
+
 #[derive(Clone, Copy)]
 struct Seeds<'a>(&'a [Placed]);
 
 impl Display for Seeds<'_> {
     fn fmt<W: fmt::Write>(&self, f: &mut fmt::Formatter<W>) -> fmt::Result {
         for (i, seed) in self.0.iter().enumerate() {
-            let tile = seed.tile;
-            let turn = seed.turn;
-            let mirrored = if seed.mirrored { "mirrored, " } else { "" };
-            let place = Coefficients(seed.place.as_slice());
-            writeln!(
-                f,
-                "seed {i}: tile {tile}, {mirrored}turned by {turn}, at {place}"
-            )?;
+            let lying = Lying {
+                tile: seed.tile,
+                turn: seed.turn,
+                mirrored: seed.mirrored,
+                place: Coefficients(seed.place.as_slice()),
+            };
+            writeln!(f, "seed {i}: {lying}")?;
         }
         Ok(())
     }
