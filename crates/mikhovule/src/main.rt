@@ -1,26 +1,18 @@
-// Reads a job from standard input, judges its book over the ring that it names, and tells it in words.
+// Reads a job from standard input, lays it over the ring that it names, and prints its cutting list.
 // A refused job gives the one line `refused N P`, and status 1.
 #![tactic(auto)]
 
-mod nodes_in_words;
-mod words;
-
 use anyhow::anyhow;
+use floors::floor::cutting_list_of;
 use gaussian::Gaussian;
-use job_check::check::judged;
 use jobs::job::Job;
 use jobs::reading::read;
 use jobs::ring::NamedRing;
-use nodes_in_words::tell_nodes;
-use placer::descent::Descent;
-use placer::memo::Memo;
-use placer::placer::Placer;
 use refusals::Fault;
-use rings::sizes::SmallRing;
-use std::io::Read;
+use rings::ring::Ring;
+use std::io::{Read, Write};
 use std::process::ExitCode;
 use tenfold::Tenfold;
-use words::InWords;
 
 // One byte more than a text may have is enough to refuse it.
 const MOST_READ: u64 = 16385;
@@ -44,22 +36,13 @@ fn refused(rt: &HostRuntime, fault: &impl Fault) -> anyhow::Result<ExitCode> {
     }
 }
 
-// The job in words, and then its nodes at level 1, where its book is accepted over the ring.
-fn tell<R: SmallRing>(rt: &HostRuntime, job: &Job) -> anyhow::Result<ExitCode> {
-    match judged::<R>(rt.alloc(), job) {
-        Ok(over) => {
-            print!(rt; "{}", InWords(job))?;
-            let mut placer = Memo::new(Descent::new(over));
-            tell_placed(rt, job, &mut placer)
+fn print_list<R: Ring>(rt: &HostRuntime, job: &Job) -> anyhow::Result<ExitCode> {
+    match cutting_list_of::<R>(rt.alloc(), job) {
+        Ok(list) => {
+            rt.stdout().write_all(list.as_slice())?;
+            Ok(ExitCode::SUCCESS)
         }
         Err(fault) => refused(rt, &fault),
-    }
-}
-
-fn tell_placed<P: Placer>(rt: &HostRuntime, job: &Job, placer: &mut P) -> anyhow::Result<ExitCode> {
-    match tell_nodes(rt, placer, job)? {
-        None => Ok(ExitCode::SUCCESS),
-        Some(fault) => refused(rt, &fault),
     }
 }
 
@@ -67,8 +50,8 @@ fn main(rt: HostRuntime) -> anyhow::Result<ExitCode> {
     let text = input(&rt)?;
     match read(rt.alloc(), text.as_slice()) {
         Ok(job) => match job.ring {
-            NamedRing::Gaussian => tell::<Gaussian>(&rt, &job),
-            NamedRing::Tenfold => tell::<Tenfold>(&rt, &job),
+            NamedRing::Gaussian => print_list::<Gaussian>(&rt, &job),
+            NamedRing::Tenfold => print_list::<Tenfold>(&rt, &job),
         },
         Err(fault) => refused(&rt, &fault),
     }

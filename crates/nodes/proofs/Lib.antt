@@ -4,3 +4,4 @@ pub mod Numbered
 pub mod Downward
 pub mod Paths
 pub mod Tabled
+pub mod Onward

@@ -1,6 +1,7 @@
 // From an address to others.
-ghost use Rattle.std.specs.Prelude.{◌≡◌, MatchOption};
+ghost use Rattle.std.specs.Prelude.{◌≡◌, ◌+◌, MatchOption};
 ghost use Rattle.chains.specs.Addresses.{seed_address, child_address};
+ghost use Rattle.jobs.specs.Limits.{most_depth};
 ghost use Rattle.nodes.specs.Views.{address_view};
 
 use crate::address::{Address, PATH_LENGTH};
@@ -40,5 +41,24 @@ impl Address {
             path,
         };
         Some((parent, child))
+    }
+
+    // The address of the node's first child; None where the path has no room for it.
+    pub fn first_child(&self) -> Option<Address>
+        ensures { MatchOption result
+            (self.now.level ≡ most_depth)
+            (λ a. (a.level ≡ self.now.level + 1) × (address_view a ≡ child_address (address_view self.now) 0)) }
+    {
+        let level = usize::from(self.level);
+        if level == PATH_LENGTH {
+            return None;
+        }
+        let mut path = self.path;
+        path[level] = 0;
+        Some(Address {
+            seed: self.seed,
+            level: self.level + 1,
+            path,
+        })
     }
 }

@@ -2,6 +2,7 @@
 #![tactic(auto)]
 
 pub mod address;
+pub mod advancing;
 pub mod composing;
 pub mod fault;
 pub mod going;

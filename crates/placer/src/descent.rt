@@ -1,6 +1,7 @@
 // The placer that goes down from the seed at each question. It remembers nothing.
 ghost use Rattle.std.specs.Prelude.{◌≡◌, refl};
 ghost use Rattle.ring_jobs.specs.RingJobs.{job_numbers};
+ghost use Rattle.ring_jobs.proofs.Branches.{branching};
 
 use crate::placer::Placer;
 use edges::rows::Placed;
@@ -36,6 +37,8 @@ impl<R: Ring> Placer for Descent<R> {
     ghost plan = { λ d. job_numbers R.Ring.exact R.Ring.value d.job };
 
     ghost sound = { λ _. Unit {0} };
+
+    ghost branching = { λ d. branching R.Ring.exact R.Ring.value d.job };
 
     ghost soundable = { λ p. ∣ (p, (tt, refl)) ∣₁ };
 

@@ -66,6 +66,8 @@ impl<P: Placer> Placer for Memo<P> {
 
     ghost sound = { λ m. P.Placer.sound m.lower × Right P.R.Ring.exact P.R.Ring.value (P.Placer.plan m.lower) m.held };
 
+    ghost branching = { λ m. P.Placer.branching m.lower };
+
     ghost soundable = { λ m. ∥∥₁_elim (P.Placer.soundable m.lower) ∥∥₁_prop (λ q. ∣ (record { lower = q.0; held = None }, ((q.1.0, tt), q.1.1)) ∣₁) };
 
     fn job(&self) -> &RingJob<P::R> {

@@ -2,6 +2,7 @@
 ghost use Rattle.std.specs.Prelude.{◌≡◌};
 ghost use Rattle.exact.specs.JobNumbers.{JobNumbers};
 ghost use Rattle.ring_jobs.specs.RingJobs.{job_numbers};
+ghost use Rattle.ring_jobs.specs.Shapes.{Branching};
 ghost use Rattle.nodes.specs.Table.{table};
 ghost use Rattle.nodes.specs.Views.{address_view, entry_of};
 
@@ -30,6 +31,9 @@ pub trait Placer {
         ensures answer { sound self.old → entry_of Self.R.Ring.exact Self.R.Ring.value result ≡ table Self.R.Ring.exact (plan self.old) (address_view at.now) }
         ensures kept { plan self.new ≡ plan self.old }
         ensures sound { sound self.old → sound self.new };
+
+    // the job can be gone down from each node above its depth
+    ghost branching: { (p : Self) → Branching (plan p) };
 
     // each placer's job has a sound placer, so that to be sound asks nothing that cannot be met
     ghost soundable: { (p : Self) → ∥ ((q : Self) × (sound q × (plan q ≡ plan p))) ∥₁ };

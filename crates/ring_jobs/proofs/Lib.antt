@@ -3,3 +3,4 @@ pub mod Rowwise
 pub mod Shaping
 pub mod Sets
 pub mod Booked
+pub mod Branches

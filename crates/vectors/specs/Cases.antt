@@ -1,5 +1,8 @@
 -- Fixed cases: what is computed from the definitions, beside what it must be. Later layers add to the same list.
-use Rattle.std.specs.Prelude.{◌≡◌, List, [], ◌∷◌, ℤ, pos, negsuc}
+use Rattle.std.specs.Prelude.{◌≡◌, ℕ, List, [], ◌∷◌, map, ℤ, pos, negsuc, Some, None, Option}
+use Rattle.calls.specs.Sheets.{Sheet, start}
+use Rattle.calls.specs.Moves.{descending, laying, setting_aside, replayed}
+use Rattle.files.specs.Files.{saved}
 use Rattle.exact.specs.Models.{gaussian, tenfold}
 use Rattle.chains.specs.Books.{book_of}
 use Rattle.chains.specs.Edges.{net}
@@ -19,6 +22,14 @@ EveryCaseHolds (c ∷ cs) = (c.found ≡ c.expected) × EveryCaseHolds cs
 abbrev phi : tenfold.Elem
 phi = tenfold.of (four (pos 1) (pos 0) (pos 1) (negsuc 0))
 
+-- the file that a sheet writes, if there is one
+abbrev pub bytes_of : Option (Sheet gaussian) → List ℤ
+bytes_of None = []
+bytes_of (Some s) = map pos (saved gaussian one_chair s)
+
+abbrev pub chair_file : List ℕ
+chair_file = 1 ∷ 0 ∷ 3 ∷ 1 ∷ 0 ∷ 0 ∷ 0 ∷ 0 ∷ 0 ∷ 0 ∷ 0 ∷ 0 ∷ 0 ∷ 0 ∷ 0 ∷ 0 ∷ 0 ∷ 0 ∷ 1 ∷ 0 ∷ 0 ∷ 0 ∷ 1 ∷ 16 ∷ 0 ∷ []
+
 abbrev pub fixed_cases : List Case
 fixed_cases =
     -- φ² = φ + 1
@@ -37,4 +48,6 @@ fixed_cases =
           ∷ net gaussian (book_of gaussian one_chair) (seed_outlines gaussian one_chair) inner_edge ∷ [];
       expected = negsuc 0 ∷ pos 1 ∷ pos 0 ∷ [];
     }
+    -- the same job after descend, lay, lay, set aside, saved
+    ∷ record { found = bytes_of (replayed gaussian one_chair 4096 (descending ∷ laying ∷ laying ∷ setting_aside ∷ []) (start gaussian one_chair)); expected = map pos chair_file }
     ∷ []

@@ -8,11 +8,19 @@ mod book_cases;
 #[cfg(test)]
 mod books;
 #[cfg(test)]
+mod file_cases;
+#[cfg(test)]
+mod file_tables;
+#[cfg(test)]
 mod job_cases;
+#[cfg(test)]
+mod law_cases;
 #[cfg(test)]
 mod node_cases;
 #[cfg(test)]
 mod ring_cases;
+#[cfg(test)]
+mod sheet_cases;
 mod texts;
 
 // Every case on the list of fixed cases holds.

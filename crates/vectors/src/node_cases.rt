@@ -76,7 +76,7 @@ const NO_CHAIR_NODES: [(u16, &[u8]); 5] = [
 ];
 
 // A square of side 1, cut into sixteen when enlarged fourfold, with a seed so far out that its descendants leave the plane.
-const FAR_SQUARE: &str = concat!(
+pub(crate) const FAR_SQUARE: &str = concat!(
     "R 4\nI 4 0\nL 0 1 0\nS 0 1 0 1 0 1 0 1\nT 0 1 0 0 1 1 0 1 2 0 1 3\n",
     "C 0 0 0 0 0\nC 0 0 0 1 0\nC 0 0 0 2 0\nC 0 0 0 3 0\n",
     "C 0 0 0 0 1\nC 0 0 0 1 1\nC 0 0 0 2 1\nC 0 0 0 3 1\n",
@@ -86,13 +86,13 @@ const FAR_SQUARE: &str = concat!(
 );
 
 // The book of a text, with another depth and other seeds.
-fn job_of<R: Ring>(heap: Global, book: &str, seeds: &str) -> Result<RingJob<R>, Fail> {
+pub(crate) fn job_of<R: Ring>(heap: Global, book: &str, seeds: &str) -> Result<RingJob<R>, Fail> {
     let text = text_of(heap, book, seeds)?;
     let job = read(heap, text.as_bytes())?;
     over(heap, &job).map_err(|_| Fail::new("no memory"))
 }
 
-fn text_of(heap: Global, book: &str, seeds: &str) -> Result<String, AllocError> {
+pub(crate) fn text_of(heap: Global, book: &str, seeds: &str) -> Result<String, AllocError> {
     let mut text = String::new(heap);
     for line in book
         .split_inclusive('\n')

@@ -1,0 +1,5 @@
+pub mod Stepping
+pub mod Running
+pub mod Filing
+pub mod Conserved
+pub mod Ending

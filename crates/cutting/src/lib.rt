@@ -1,0 +1,5 @@
+// The cutting list of a finished sheet.
+#![tactic(auto)]
+
+pub mod list;
+mod puts;

@@ -1,0 +1,6 @@
+pub mod Kept
+pub mod Files
+pub mod Saves
+pub mod Reading
+pub mod Places
+pub mod Resumed

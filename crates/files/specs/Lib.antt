@@ -1,0 +1,4 @@
+pub mod Files
+pub mod Judging
+pub mod Calls
+pub mod Theorems

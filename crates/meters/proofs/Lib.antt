@@ -1,0 +1,10 @@
+pub mod Corners
+pub mod Watched
+pub mod Swept
+pub mod Stepping
+pub mod Signs
+pub mod Summing
+pub mod Rounds
+pub mod Laid
+pub mod Listed
+pub mod Metered

@@ -1,0 +1,12 @@
+pub mod Buffers
+pub mod Widths
+pub mod Listed
+pub mod Saves
+pub mod Fronts
+pub mod Descents
+pub mod Pieces
+pub mod Taken
+pub mod Headers
+pub mod Scanning
+pub mod Restoring
+pub mod Rooms

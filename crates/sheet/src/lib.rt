@@ -1,0 +1,9 @@
+// Open and finished sheets over any placer.
+#![tactic(auto)]
+
+pub mod ends;
+pub mod fault;
+pub mod filing;
+pub mod laying;
+pub mod moves;
+pub mod open;
