@@ -1,5 +1,5 @@
 -- The end of a run: the list can be read, and reads as the law says.
-use Rattle.std.proofs.Common.{◌≡◌, ℕ, ◌≤◌, true, List, [], ◌∷◌, length, ℤ, Some, None, Option, Ok, Err, Result, MatchResult, MatchOption, sym, refl, ap, ◌∙◌, subst}
+use Rattle.std.proofs.Common.{◌≡◌, ℕ, List, [], ◌∷◌, length, ℤ, Some, None, Option, Ok, Err, Result, MatchResult, MatchOption, sym, ap, ◌∙◌, subst}
 use Rattle.std.specs.List.{AllByRecursion}
 use Rattle.std.proofs.ByRecursion.{All-weaker}
 use Rattle.exact.specs.Cyclotomic.{Cyclotomic, CyclotomicLaws}
@@ -12,7 +12,6 @@ use Rattle.chains.specs.Placements.{outlines}
 use Rattle.chains.specs.Theorems.{RealLengths}
 use Rattle.job_check.specs.Checks.{Passes}
 use Rattle.ring_jobs.specs.Shapes.{Branching}
-use Rattle.nodes.specs.OnPlane.{kept_corners}
 use Rattle.calls.specs.Limits.{usable}
 use Rattle.calls.specs.Records.{Record, records, with_laid, laid_pieces}
 use Rattle.calls.specs.Sheets.{Sheet, start}
@@ -22,7 +21,7 @@ use Rattle.calls.specs.declared.row.Row.{Row}
 use Rattle.calls.specs.declared.cursor.Cursor.{Cursor}
 use Rattle.meters.specs.Pieces as meters
 use Rattle.meters.proofs.Metered.{accepted_real}
-use Rattle.runs.specs.Runs.{State, Call, begun, run}
+use Rattle.runs.specs.Runs.{Call, begun, run}
 use Rattle.runs.proofs.Traced.{traced_begun, traced_run}
 use Rattle.runs.proofs.Fitting.{CornersKept, Readable, readable}
 use Rattle.runs.proofs.Laws.{reading_conserved}
@@ -39,7 +38,7 @@ map_option : {X : Type 0} (o : Option X) (P P' : X → Type 0) → ((x : X) → 
 map_option None P P' f h = h
 map_option (Some x) P P' f h = f x h
 
-module _ {S C : Type 0} (E : Cyclotomic) (v : S → E.Elem) (N : JobNumbers) (B : Branching N) (listed : C → List ℤ) (room : ℕ) (calls : List Call) where
+module _ {C : Type 0} (E : Cyclotomic) (N : JobNumbers) (B : Branching N) (listed : C → List ℤ) (room : ℕ) (calls : List Call) where
   corners_of : (rs : List (Record E)) → AllByRecursion (Readable E N) rs → meters.CornersKept E N (laid_pieces rs)
   unfolding laid_pieces
   corners_of [] h = tt
@@ -52,15 +51,20 @@ module _ {S C : Type 0} (E : Cyclotomic) (v : S → E.Elem) (N : JobNumbers) (B 
   run_readable : AllByRecursion (Readable E N) (run E N room calls (begun E N)).sheet.records
   run_readable = let t = traced_run E N room calls (begun E N) (traced_begun E N (usable room)) in readable E N B (usable room) t.moves (run E N room calls (begun E N)).sheet t.way
 
+  -- a list that holds the records of a run can be read
+  pub rows_readable : (count : ℕ) (rows : List (Row C)) → (run E N room calls (begun E N)).sheet.records ≡ records E listed count rows →
+      length (records E listed count rows) ≡ count → meters.Readable E N (length rows) count (records E listed count rows)
+  rows_readable count rows same counted =
+      let all = subst (AllByRecursion (Readable E N)) same run_readable in
+      record { long = counted_in E listed count rows counted; fit = All-weaker (Readable E N) (Fits E N) (λ r h. h.0) _ all; kept = corners_of (records E listed count rows) all }
+
+module _ {S C : Type 0} (E : Cyclotomic) (v : S → E.Elem) (N : JobNumbers) (B : Branching N) (listed : C → List ℤ) (room : ℕ) (calls : List Call) where
   module _ (cursor : Option Cursor) (count : ℕ) (rows : List (Row C)) (xs : List (Answer S)) (b b' : List ℕ) (m : Makes E v N room calls (sheet_of E listed cursor count rows) count xs b b') where
     same : (run E N room calls (begun E N)).sheet.records ≡ records E listed count rows
     same = ap (λ (z : Sheet E). z.records) m.leads
 
-    -- the list can be read
     pub list_readable : meters.Readable E N (length rows) count (records E listed count rows)
-    list_readable =
-        let all = subst (AllByRecursion (Readable E N)) same run_readable in
-        record { long = counted_in E listed count rows m.counted; fit = All-weaker (Readable E N) (Fits E N) (λ r h. h.0) _ all; kept = corners_of (records E listed count rows) all }
+    list_readable = rows_readable E N B listed room calls count rows same m.counted
 
     module _ (L : CyclotomicLaws E) (K : Passes E N) (G : AbelianGroup) (M : AbelianLaws G) (r : Edge E → G.Val) (R : ReadsEdges E (book_of E N) G r) where
       pub lengths_real : RealLengths E (book_of E N)

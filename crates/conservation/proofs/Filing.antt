@@ -1,12 +1,12 @@
 -- A call on a sheet does what the run's call does: save and resume.
-use Rattle.std.proofs.Common.{◌≡◌, ℕ, ◌+◌, ◌<◌, ◌≤◌, Bool, true, false, if◌then◌else◌, nat_le, List, ◌∷◌, ◌++◌, length, drop, Some, None, Option, Ok, Err, Result, MatchResult, sym, refl, ap, ◌∙◌, subst, arith, le-leb}
+use Rattle.std.proofs.Common.{◌≡◌, ℕ, ◌≤◌, Bool, true, false, if◌then◌else◌, nat_le, List, ◌∷◌, ◌++◌, length, drop, Option, Ok, Err, Result, MatchResult, sym, refl, ap, ◌∙◌, subst, arith, le-leb}
 use Rattle.std.specs.List.{AllByRecursion}
 use Rattle.exact.specs.Cyclotomic.{Cyclotomic}
 use Rattle.exact.specs.JobNumbers.{JobNumbers}
 use Rattle.calls.specs.Limits.{usable}
 use Rattle.calls.specs.Records.{Record}
 use Rattle.calls.specs.Sheets.{Sheet, no_room}
-use Rattle.calls.specs.Fits.{Fits, WithinLimits, Unfit, FirstUnfit, ListUnfit}
+use Rattle.calls.specs.Fits.{Fits, Unfit, FirstUnfit, ListUnfit}
 use Rattle.calls.specs.declared.fault.ListFault.{ListFault}
 use Rattle.calls.specs.declared.fault.ListFault.TheVariants.{Short, BeyondLimits, Ring}
 use Rattle.files.specs.Files.{saved}
@@ -35,26 +35,26 @@ abbrev pub told_save : {S : Type 0} → Result ℕ (SheetFault S) → Answer S
 told_save (Ok n) = Saved n
 told_save (Err f) = Refused f
 
+-- ---- records that fit are not refused
+module _ (E : Cyclotomic) (N : JobNumbers) (rs : List (Record E)) where
+  all_at : (before : List (Record E)) (r : Record E) (after : List (Record E)) → AllByRecursion (Fits E N) (before ++ r ∷ after) → Fits E N r
+  all_at [] r after h = h.0
+  all_at (x ∷ before) r after h = all_at before r after h.1
+
+  not_unfit : (r : Record E) (f : ListFault) → Fits E N r → Unfit E N r f → ⊥
+  not_unfit r (Short f) h u = u
+  not_unfit r BeyondLimits h u = u h.0
+  not_unfit r (Ring f) h u = u.1 h.1
+
+  pub no_first : (f : ListFault) → AllByRecursion (Fits E N) rs → FirstUnfit E N rs f → ⊥
+  no_first f h u = not_unfit u.first f (all_at u.before u.first u.after (subst (AllByRecursion (Fits E N)) u.whole h)) u.unfit
+
+  all_read : (places : ℕ) (f : ListFault) → length rs ≤ places → AllByRecursion (Fits E N) rs → ListUnfit E N places (length rs) rs f → ⊥
+  all_read places (Short f) l h u = omega arith
+  all_read places BeyondLimits l h u = no_first BeyondLimits h u.1
+  all_read places (Ring f) l h u = no_first (Ring f) h u.1
+
 module _ {S : Type 0} (E : Cyclotomic) (v : S → E.Elem) (N : JobNumbers) (room : ℕ) where
-  -- ---- records that fit are not refused
-  module _ (rs : List (Record E)) where
-    all_at : (before : List (Record E)) (r : Record E) (after : List (Record E)) → AllByRecursion (Fits E N) (before ++ r ∷ after) → Fits E N r
-    all_at [] r after h = h.0
-    all_at (x ∷ before) r after h = all_at before r after h.1
-
-    not_unfit : (r : Record E) (f : ListFault) → Fits E N r → Unfit E N r f → ⊥
-    not_unfit r (Short f) h u = u
-    not_unfit r BeyondLimits h u = u h.0
-    not_unfit r (Ring f) h u = u.1 h.1
-
-    no_first : (f : ListFault) → AllByRecursion (Fits E N) rs → FirstUnfit E N rs f → ⊥
-    no_first f h u = not_unfit u.first f (all_at u.before u.first u.after (subst (AllByRecursion (Fits E N)) u.whole h)) u.unfit
-
-    all_read : (places : ℕ) (f : ListFault) → length rs ≤ places → AllByRecursion (Fits E N) rs → ListUnfit E N places (length rs) rs f → ⊥
-    all_read places (Short f) l h u = omega arith
-    all_read places BeyondLimits l h u = no_first BeyondLimits h u.1
-    all_read places (Ring f) l h u = no_first (Ring f) h u.1
-
   -- ---- save
   -- what a save answers and writes
   abbrev SaveAnswers : Sheet E → ℕ → List ℕ → List ℕ → Result ℕ (SheetFault S) → Type 0
@@ -80,7 +80,7 @@ module _ {S : Type 0} (E : Cyclotomic) (v : S → E.Elem) (N : JobNumbers) (room
     save_case : (r : Result ℕ (SheetFault S)) → SaveAnswers s.sheet count buffer buffer' r → (t : Bool) → nat_le (length (saved E N s.sheet)) bytes ≡ t → SaveDoes bytes s count buffer buffer' (by_room s t) (told_save r)
     save_case (Ok n) d true e = (refl, counted, ap Saved d.0, d.1 ∙ ap (λ k. saved E N s.sheet ++ drop k buffer) d.0)
     save_case (Ok n) d false e = let l = has_room n d.0 d.1 in let m : nat_le (length (saved E N s.sheet)) bytes ≡ true = le-leb _ _ (omega arith) in absurd (true_not_false (sym m ∙ e))
-    save_case (Err (sheets.List f)) d t e = absurd (all_read s.sheet.records room f (omega arith) fits (subst (λ k. ListUnfit E N room k s.sheet.records f) (sym counted) d.0))
+    save_case (Err (sheets.List f)) d t e = absurd (all_read E N s.sheet.records room f (omega arith) fits (subst (λ k. ListUnfit E N room k s.sheet.records f) (sym counted) d.0))
     save_case (Err (sheets.Buffer f)) d true e = let l = leb-true _ _ e in let m = d.0.2 in absurd (omega arith)
     save_case (Err (sheets.Buffer f)) d false e = (refl, counted, refl, d.1)
     save_case (Err (sheets.File f)) d t e = absurd d.0

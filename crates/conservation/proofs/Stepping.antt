@@ -1,21 +1,17 @@
 -- A call on a sheet does what the run's call does: descend, lay and set aside.
 use Rattle.std.proofs.Common.{◌≡◌, ℕ, ◌+◌, List, [], ◌∷◌, ◌++◌, length, nat_eq, nat_lt, Bool, true, false, Some, None, Option, Ok, Err, Result, MatchResult, sym, refl, ap, ◌∙◌, subst, arith, length-append}
-use Rattle.std.specs.List.{AllByRecursion}
 use Rattle.exact.specs.Cyclotomic.{Cyclotomic}
 use Rattle.exact.specs.JobNumbers.{JobNumbers}
 use Rattle.job_rows.specs.declared.Placed.{Placed}
 use Rattle.edges.specs.Views.{placement_view}
 use Rattle.chains.specs.Books.{Placement}
 use Rattle.chains.specs.Addresses.{Address, level}
-use Rattle.nodes.specs.Table.{Entry, there, missing, outside, table}
+use Rattle.nodes.specs.Table.{Entry, there, table}
 use Rattle.calls.specs.Limits.{usable}
-use Rattle.calls.specs.Records.{Record}
 use Rattle.calls.specs.Sheets.{Cursor, Sheet, Why, wrong_level, no_room, at_cursor, provided, recorded, placed_from, lay_by, lay, descend, set_aside}
 use Rattle.calls.specs.declared.row.Row.{Row}
 use Rattle.calls.proofs.Moving.{Moved, descends, lays, sets_aside, is_moved}
 use Rattle.calls.specs.Moves.{Move, descending, laying, setting_aside, moved}
-use Rattle.calls.specs.Fits.{Fits}
-use Rattle.files.specs.Calls.{Reason, about_nodes}
 use Rattle.runs.specs.Runs.{State, moving, noted, noted_if, done, called, settled}
 use Rattle.runs.proofs.Noting as noting
 use Rattle.sheet.specs.Answers as sheets
@@ -24,6 +20,18 @@ use Rattle.sheet.specs.declared.fault.SheetFault.{SheetFault}
 use Rattle.conservation.specs.declared.answer.Answer.{Answer}
 use Rattle.conservation.specs.declared.answer.Answer.TheVariants.{Went, Laid, Refused}
 use Rattle.conservation.specs.Answered.{told, Accepted, Answers, Does}
+
+-- a sound placer's entry is the table's
+pub by_table : {S : Type 0} (E : Cyclotomic) (v : S → E.Elem) (N : JobNumbers) (places : ℕ) (s : Sheet E) (x : Entry E) → entry_at E v N s.cursor x → lay_by E N places (λ a. x) s ≡ lay E N places s
+unfolding lay_by
+by_table E v N places s x h = go s.cursor h
+  where
+    on : (a : Address → Entry E) → Cursor → Result (Sheet E) Why
+    on entry c = provided (nat_eq (level c.node) N.depth) wrong_level (provided (nat_lt (length s.records) places) no_room (placed_from E N (entry c.node) s c))
+
+    go : (o : Option Cursor) → entry_at E v N o x → at_cursor o (on (λ a. x)) ≡ at_cursor o (on (table E N))
+    go None h = refl
+    go (Some c) h = ap (λ y. provided (nat_eq (level c.node) N.depth) wrong_level (provided (nat_lt (length s.records) places) no_room (placed_from E N y s c))) h
 
 module _ {S : Type 0} (E : Cyclotomic) (v : S → E.Elem) (N : JobNumbers) (room : ℕ) where
   -- what an accepted move leaves and answers, or why it is refused
@@ -97,18 +105,6 @@ module _ {S : Type 0} (E : Cyclotomic) (v : S → E.Elem) (N : JobNumbers) (room
   told_lay (Ok p) = Laid p
   told_lay (Err f) = Refused f
 
-  -- a sound placer's entry is the table's
-  by_table : (s : Sheet E) (x : Entry E) → entry_at E v N s.cursor x → lay_by E N (usable room) (λ a. x) s ≡ lay E N (usable room) s
-  unfolding lay_by
-  by_table s x h = go s.cursor h
-    where
-      on : (a : Address → Entry E) → Cursor → Result (Sheet E) Why
-      on entry c = provided (nat_eq (level c.node) N.depth) wrong_level (provided (nat_lt (length s.records) (usable room)) no_room (placed_from E N (entry c.node) s c))
-
-      go : (o : Option Cursor) → entry_at E v N o x → at_cursor o (on (λ a. x)) ≡ at_cursor o (on (table E N))
-      go None h = refl
-      go (Some c) h = ap (λ y. provided (nat_eq (level c.node) N.depth) wrong_level (provided (nat_lt (length s.records) (usable room)) no_room (placed_from E N y s c))) h
-
   -- what an accepted lay records
   record_laid : (places : ℕ) (x : Entry E) (s t : Sheet E) (p : Placement E) → x ≡ there p → lay_by E N places (λ a. x) s ≡ Ok t →
       (d : ℕ) × (t.records ≡ s.records ++ (record { descents = d; laid = Some p } ∷ []))
@@ -136,7 +132,7 @@ module _ {S : Type 0} (E : Cyclotomic) (v : S → E.Elem) (N : JobNumbers) (room
   unfolding moved
   lay_does Sound sound r old new count count' rows rows' buffer l k =
       let x = l.0 in
-      let e = by_table old x (l.1 sound) in
+      let e = by_table E v N (usable room) old x (l.1 sound) in
       move_does laying (told_lay r) old new count count' buffer (λ n. subst (λ q. OnMove laying q (told_lay r) old new count count') e (go (lay_by E N (usable room) (λ a. x) old) refl e r l.2 k n))
     where
       go : (q : Result (Sheet E) Why) → lay_by E N (usable room) (λ a. l.0) old ≡ q → lay_by E N (usable room) (λ a. l.0) old ≡ lay E N (usable room) old → (r : Result (Placed S) (SheetFault S)) →

@@ -1,11 +1,10 @@
 -- What the calls of a run are, and what they answer.
-use Rattle.std.specs.Prelude.{◌≡◌, ℕ, List, [], ◌∷◌, ◌++◌, length, drop, Some, None, Option, Ok, Err, Result}
+use Rattle.std.specs.Prelude.{◌≡◌, ℕ, List, [], ◌∷◌, ◌++◌, length, drop, Some, Ok, Err, Result}
 use Rattle.std.specs.List.{AllByRecursion}
 use Rattle.exact.specs.Cyclotomic.{Cyclotomic}
 use Rattle.exact.specs.JobNumbers.{JobNumbers}
 use Rattle.job_rows.specs.declared.Placed.{Placed}
 use Rattle.edges.specs.Views.{placement_view}
-use Rattle.calls.specs.Records.{Record}
 use Rattle.calls.specs.Sheets.{Sheet}
 use Rattle.calls.specs.Fits.{Fits}
 use Rattle.calls.specs.Moves.{descending, laying, setting_aside}

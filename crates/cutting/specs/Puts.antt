@@ -1,9 +1,6 @@
 -- Bytes put into a buffer from a place on.
-use Rattle.std.specs.Prelude.{◌≡◌, ℕ, ◌+◌, ◌^◌, ◌≤◌, List, ◌++◌, length, take, drop, Some, None, Option}
-
--- the buffer with some bytes from a place on
-abbrev pub with_bytes : List ℕ → ℕ → List ℕ → List ℕ
-with_bytes old at bytes = take at old ++ (bytes ++ drop (at + length bytes) old)
+use Rattle.std.specs.Prelude.{◌≡◌, ℕ, ◌+◌, ◌^◌, ◌≤◌, List, length, Some, None, Option}
+use Rattle.saves.specs.Written.{with_bytes}
 
 -- The place behind the bytes is answered, whether they fit or not, so that a text can be measured by putting it into an empty buffer;
 -- the bytes are in the buffer where they fit. None only where that place is beyond all numbers of the machine.

@@ -1,30 +1,23 @@
 -- From a job that is laid whole to its printed list.
-use Rattle.std.proofs.Common.{◌≡◌, ℕ, ◌<◌, ◌≤◌, true, List, [], ◌∷◌, ◌++◌, length, get_or, map, take, drop, append_assoc, ℤ, Some, Option, Ok, Err, Result, MatchResult, IsErrAnd, refl, sym, ap, ◌∙◌, subst, inl, inr, arith}
-use Rattle.std.specs.List.{AllByRecursion, flat_map}
+use Rattle.std.proofs.Common.{◌≡◌, ℕ, ◌<◌, ◌≤◌, List, [], ◌∷◌, ◌++◌, length, map, take, drop, append_assoc, ℤ, Some, Option, Ok, Err, Result, MatchResult, IsErrAnd, refl, sym, ap, ◌∙◌, subst, inl, inr, arith}
+use Rattle.std.specs.List.{flat_map}
 use Rattle.std.proofs.Math.Nat.{min-le_left}
 use Rattle.std.proofs.lemmas.List.{take-take}
 use Rattle.std.proofs.Math.Seq.{take-append_seam}
-use Rattle.std.proofs.ByRecursion.{All-map, All-weaker}
-use Rattle.std.proofs.lemmas.Bool.{and_parts}
 use Rattle.std.proofs.lemmas.List.Folds.{flat_map-map}
 use Rattle.exact.specs.Cyclotomic.{Cyclotomic}
 use Rattle.exact.specs.JobNumbers.{JobNumbers}
-use Rattle.rings.specs.Plane.{OnPlane}
-use Rattle.chains.specs.Books.{Placement, book_of, placement_of}
-use Rattle.chains.specs.Placements.{child_of}
-use Rattle.chains.specs.Addresses.{Address, no_entry, child_entries, child_placement, seed_placement, placement_below, node_placement}
-use Rattle.nodes.specs.Table.{there, table, kept_below, kept_way, node_on_plane}
-use Rattle.nodes.proofs.Tabled.{table_there}
-use Rattle.nodes.proofs.Testing.{plane_yes, child_yes}
+use Rattle.chains.specs.Books.{Placement}
+use Rattle.chains.specs.Addresses.{Address, node_placement}
 use Rattle.calls.specs.Limits.{usable, most_pieces}
 use Rattle.calls.specs.Records.{Record, records}
 use Rattle.calls.specs.Depths.{pieces}
-use Rattle.calls.specs.Fits.{PieceOnPlane}
 use Rattle.calls.specs.declared.row.Row.{Row}
 use Rattle.calls.specs.declared.fault.ListFault.TheVariants.{Short, BeyondLimits, Ring}
 use Rattle.sheet.specs.declared.fault.SheetFault.{SheetFault}
 use Rattle.sheet.specs.declared.fault.SheetFault.TheVariants.{NoRoom, WrongLevel, NothingPending, StillPending, Check, Place, List as Listed, File, Buffer}
 use Rattle.job_check.specs.Checks.{Passes}
+use Rattle.conservation.proofs.Filing.{no_first}
 use Rattle.whole_jobs.specs.Whole.{CannotBeLaid}
 use Rattle.whole_jobs.specs.Job.{LaysWhole, LaysNotWhole}
 use Rattle.cutting.specs.Lines.{laid_text, line, cutting_list}
@@ -33,32 +26,7 @@ use Rattle.floors.specs.Floors.{piece_line, floor_list, most_bytes, NoList, NoFl
 use Rattle.floors.specs.declared.fault.FloorFault.{FloorFault}
 use Rattle.floors.specs.declared.fault.FloorFault.TheVariants.{Sheet}
 
-all_at : {A : Type 0} (P : A → Type 0) (before : List A) (x : A) (after : List A) → AllByRecursion P (before ++ x ∷ after) → P x
-all_at P [] x after h = h.0
-all_at P (b ∷ before) x after h = all_at P before x after h.1
-
-all_back : {A B : Type 0} (P : B → Type 0) (f : A → B) (xs : List A) → AllByRecursion P (map f xs) → AllByRecursion (λ x. P (f x)) xs
-all_back P f [] h = tt
-all_back P f (x ∷ xs) h = (h.0, all_back P f xs h.1)
-
 module _ (E : Cyclotomic) (N : JobNumbers) where
-  -- ---- a node on the plane has its place on it
-  below_on_plane : (p : Placement E) (path : List ℕ) → OnPlane E p.place → kept_below E N p path ≡ true → OnPlane E (placement_below E N p path).place
-  unfolding kept_below placement_below child_placement child_of
-  below_on_plane p [] h k = h
-  below_on_plane p (i ∷ path) h k =
-      let a = and_parts _ _ k in
-      let c = child_yes E (book_of E N) p (placement_of E (get_or (child_entries N p.tile) i no_entry)) a.0 in
-      below_on_plane (child_placement E N p i) path c.1.2 a.1
-
-  place_of_kept : (a : Address) → kept_way E N a ≡ true → OnPlane E (node_placement E N a).place
-  unfolding kept_way node_placement
-  place_of_kept a h = let k = and_parts _ _ h in below_on_plane (seed_placement E N a.seed) a.path (plane_yes E _ k.0) k.1
-
-  place_there : (a : Address) → table E N a ≡ there (node_placement E N a) → OnPlane E (node_placement E N a).place
-  unfolding node_on_plane
-  place_there a e = place_of_kept a (and_parts _ _ (table_there E N a (node_placement E N a) e).1).0
-
   -- ---- a list of laid pieces
   -- a piece's line, or that of a node set aside
   abbrev laid_line : Option (Placement E) → List ℕ
@@ -79,13 +47,6 @@ module _ (E : Cyclotomic) (N : JobNumbers) where
   unfolding floor_list
   listed_lines rs e = lines_at rs (pieces N) e
 
-  -- no laid piece is off the plane
-  pieces_on_plane : (rs : List (Record E)) (nodes : List Address) → map (λ (r : Record E). r.laid) rs ≡ map laid_at nodes →
-      AllByRecursion (λ a. table E N a ≡ there (node_placement E N a)) nodes → AllByRecursion (λ (r : Record E). PieceOnPlane E N r.laid) rs
-  pieces_on_plane rs nodes e t =
-      all_back (PieceOnPlane E N) (λ (r : Record E). r.laid) rs (subst (AllByRecursion (PieceOnPlane E N)) (sym e)
-      (All-map (PieceOnPlane E N) laid_at nodes (All-weaker (λ a. table E N a ≡ there (node_placement E N a)) (λ a. OnPlane E (node_placement E N a).place) place_there nodes t)))
-
 module _ (E : Cyclotomic) (N : JobNumbers) {S : Type 0} (value : S → E.Elem) {C : Type 0} (listed : C → List ℤ) where
   fits_in : (count : ℕ) (xs ys : List (Row C)) → LaysWhole E N listed count xs ys → count ≤ length ys
   fits_in count xs ys w =
@@ -101,14 +62,11 @@ module _ (E : Cyclotomic) (N : JobNumbers) {S : Type 0} (value : S → E.Elem) {
       let e = listed_lines E N (records E listed count ys) w.lists.placed in
       (w.passes, p.0 ∙ ap length e, p.1, p.2 ∙ ap (λ t. t ++ drop n old) e)
   printed count xs ys w old new (Err (Listed (Short f))) p = let k = fits_in count xs ys w in let h = p.0 in absurd (omega (arith, k, h))
-  printed count xs ys w old new (Err (Listed BeyondLimits)) p = inr (inr (inr (refl, w.passes)))
-  printed count xs ys w old new (Err (Listed (Ring f))) p =
-      let u = p.0.1 in let rs = records E listed count ys in
-      let all = pieces_on_plane E N rs (pieces N) w.lists.placed w.lists.on_plane in
-      absurd (u.unfit.1 (all_at (λ (r : Record E). PieceOnPlane E N r.laid) u.before u.first u.after (subst (AllByRecursion (λ (r : Record E). PieceOnPlane E N r.laid)) u.whole all)))
+  printed count xs ys w old new (Err (Listed BeyondLimits)) p = absurd (no_first E N (records E listed count ys) BeyondLimits w.lists.readable.fit p.0.1)
+  printed count xs ys w old new (Err (Listed (Ring f))) p = absurd (no_first E N (records E listed count ys) (Ring f) w.lists.readable.fit p.0.1)
   printed count xs ys w old new (Err (Buffer f)) p =
       let e = listed_lines E N (records E listed count ys) w.lists.placed in
-      inr (inr (inl (refl, w.passes, subst (λ t. length old < length t) e p.2)))
+      inr (inr (refl, w.passes, subst (λ t. length old < length t) e p.2))
   printed count xs ys w old new (Err NoRoom) p = absurd p
   printed count xs ys w old new (Err WrongLevel) p = absurd p
   printed count xs ys w old new (Err NothingPending) p = absurd p

@@ -10,8 +10,7 @@ use Rattle.nodes.specs.Table.{there, table}
 use Rattle.calls.specs.Depths.{pieces}
 use Rattle.sheet.specs.Ends.{NotStarted}
 use Rattle.sheet.specs.declared.fault.SheetFault.{SheetFault}
-use Rattle.sheet.specs.declared.fault.SheetFault.TheVariants.{Buffer, List as Listed}
-use Rattle.calls.specs.declared.fault.ListFault.TheVariants.{BeyondLimits}
+use Rattle.sheet.specs.declared.fault.SheetFault.TheVariants.{Buffer}
 use Rattle.whole_jobs.specs.Whole.{CannotBeLaid}
 use Rattle.cutting.specs.Lines.{laid_text}
 use Rattle.floors.specs.declared.fault.FloorFault.{FloorFault}
@@ -45,16 +44,10 @@ module _ (E : Cyclotomic) where
     abbrev pub TooLong : {S : Type 0} → ℕ → SheetFault S → Type 0
     TooLong bytes f = (f ≡ Buffer (record {})) × Passes E N × (bytes < length floor_list)
 
-    -- All pieces are laid, and yet a record is refused as beyond the limits: more descents than a path has, or a tile that the book has not.
-    -- No job is known to meet this. A list that is too short for the records, or a piece off the plane, cannot be; but how often the laying of
-    -- a whole job descends before each piece is not among the facts that are told of it, so this case is not excluded here.
-    abbrev pub NotRead : {S : Type 0} → SheetFault S → Type 0
-    NotRead f = (f ≡ Listed BeyondLimits) × Passes E N
-
     -- why a sheet with a list of so many places and a text of so many bytes gives no list: the check refuses the job; a piece cannot be
-    -- laid; the list is longer than the text; or the case that no job is known to meet
+    -- laid; or the list is longer than the text
     abbrev pub NoList : {S : Type 0} → (S → E.Elem) → ℕ → ℕ → SheetFault S → Type 0
-    NoList value places bytes f = NotStarted E value N f ⊎ (StopsAt places f ⊎ (TooLong bytes f ⊎ NotRead f))
+    NoList value places bytes f = NotStarted E value N f ⊎ (StopsAt places f ⊎ TooLong bytes f)
 
     abbrev pub NoFloor : {S : Type 0} → (S → E.Elem) → ℕ → FloorFault S → Type 0
     NoFloor value places Memory = Unit {0}

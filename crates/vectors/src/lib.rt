@@ -22,6 +22,8 @@ mod ring_cases;
 #[cfg(test)]
 mod sheet_cases;
 mod texts;
+#[cfg(test)]
+mod whole_cases;
 
 // Every case on the list of fixed cases holds.
 pub fn fixed_cases_hold()

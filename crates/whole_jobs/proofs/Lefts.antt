@@ -8,7 +8,8 @@ use Rattle.chains.specs.Addresses.{Address, level, seed_address, child_address, 
 use Rattle.chains.proofs.Following.{follows}
 use Rattle.calls.specs.Depths.{levels_below, pieces_of, pieces}
 use Rattle.calls.specs.Sheets.{come_to}
-use Rattle.whole_jobs.specs.Whole.{node_at, left}
+use Rattle.runs.specs.Runs.{node_at}
+use Rattle.whole_jobs.specs.Whole.{left}
 
 same_flat : {A B : Type 0} (f g : A → List B) → ((x : A) → f x ≡ g x) → (xs : List A) → flat_map f xs ≡ flat_map g xs
 same_flat f g h [] = refl

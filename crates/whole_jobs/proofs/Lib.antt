@@ -1,6 +1,7 @@
 mod Listing
 mod Lefts
 mod Joining
+mod Leading
 mod Steps
 mod Levels
 mod Going

@@ -10,7 +10,9 @@ use Rattle.calls.specs.Limits.{usable, most_pieces}
 use Rattle.calls.specs.Records.{Record}
 use Rattle.calls.specs.Sheets.{Cursor, Sheet, no_room, off_plane}
 use Rattle.calls.specs.Depths.{pieces_of}
+use Rattle.calls.specs.Moves.{Move, descending, laying, setting_aside, replayed}
 use Rattle.calls.specs.declared.row.Row.{Row}
+use Rattle.runs.specs.Runs.{node_at}
 use Rattle.sheet.specs.Answers.{fault}
 use Rattle.sheet.specs.declared.fault.SheetFault.{SheetFault}
 
@@ -21,11 +23,6 @@ pub record Grown {C : Type 0} (count count' : ℕ) (old new : List (Row C)) : Ty
   pub as_long : length new ≡ length old
   pub before : take count new ≡ take count old
   pub behind : drop count' new ≡ drop count' old
-
--- the cursor's node, if there is one
-abbrev pub node_at : Option Cursor → Option Address
-node_at None = None
-node_at (Some c) = Some c.node
 
 -- the pieces that pending nodes come to, in order
 abbrev pub left : JobNumbers → Option Cursor → List Address
@@ -40,7 +37,17 @@ level_at (Some c) = level c.node
 abbrev pub steps_left : ℕ → Option Cursor → ℕ
 steps_left count cursor = (most_pieces - count) * (most_depth + 1) + (most_depth - level_at cursor)
 
+-- down or laid, and not set aside
+abbrev pub Forward : Move → Type 0
+Forward descending = Unit {0}
+Forward laying = Unit {0}
+Forward setting_aside = ⊥
+
 module _ (E : Cyclotomic) (N : JobNumbers) where
+  -- descents and layings, each accepted where so many places may be used, lead from one sheet to another
+  abbrev pub LedOn : ℕ → Sheet E → Sheet E → Type 0
+  LedOn places old new = (ms : List Move) × AllByRecursion Forward ms × (replayed E N places ms old ≡ Some new)
+
   -- the pieces at some nodes were laid, and no others: they are on the plane, and what was left was these and then what is left now
   pub record Laid (nodes : List Address) (old new : Sheet E) : Type 0 where
     pub records : List (Record E)

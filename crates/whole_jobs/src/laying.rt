@@ -3,7 +3,7 @@ ghost use Rattle.std.specs.Prelude.{◌≡◌, ◌<◌, length, Some, IfOk};
 ghost use Rattle.calls.specs.Limits.{usable};
 ghost use Rattle.calls.specs.Sheets.{AtNode};
 ghost use Rattle.calls.specs.Views.{cursor_at, sheet_of};
-ghost use Rattle.whole_jobs.specs.Whole.{Grown, steps_left, StepsOn, LaysOn};
+ghost use Rattle.whole_jobs.specs.Whole.{Grown, steps_left, StepsOn, LaysOn, LedOn};
 
 use calls::cursor::Cursor;
 use calls::row::Row;
@@ -20,6 +20,8 @@ fn step_on<P: Placer>(
 ) -> Result<(), SheetFault<P::R>>
     requires { sheet.old.cursor ≡ Some cursor }
     ensures lays { P.Placer.sound sheet.old.placer → AtNode (P.Placer.plan sheet.old.placer) (cursor_at sheet.old.cursor) → StepsOn P.R.Ring.exact (P.Placer.plan sheet.old.placer) (usable (length list.old)) result
+        (sheet_of P.R.Ring.exact P.R.Ring.listed sheet.old.cursor sheet.old.count list.old) (sheet_of P.R.Ring.exact P.R.Ring.listed sheet.new.cursor sheet.new.count list.new) }
+    ensures led { P.Placer.sound sheet.old.placer → LedOn P.R.Ring.exact (P.Placer.plan sheet.old.placer) (usable (length list.old))
         (sheet_of P.R.Ring.exact P.R.Ring.listed sheet.old.cursor sheet.old.count list.old) (sheet_of P.R.Ring.exact P.R.Ring.listed sheet.new.cursor sheet.new.count list.new) }
     ensures listed { Grown sheet.old.count sheet.new.count list.old list.new }
     ensures kept { P.Placer.plan sheet.new.placer ≡ P.Placer.plan sheet.old.placer }
@@ -41,6 +43,8 @@ pub fn lay_all<P: Placer>(
     list: &mut [Row<<P::R as Ring>::Plain>],
 ) -> Result<(), SheetFault<P::R>>
     ensures lays { P.Placer.sound sheet.old.placer → AtNode (P.Placer.plan sheet.old.placer) (cursor_at sheet.old.cursor) → LaysOn P.R.Ring.exact (P.Placer.plan sheet.old.placer) (usable (length list.old)) result
+        (sheet_of P.R.Ring.exact P.R.Ring.listed sheet.old.cursor sheet.old.count list.old) (sheet_of P.R.Ring.exact P.R.Ring.listed sheet.new.cursor sheet.new.count list.new) }
+    ensures led { P.Placer.sound sheet.old.placer → LedOn P.R.Ring.exact (P.Placer.plan sheet.old.placer) (usable (length list.old))
         (sheet_of P.R.Ring.exact P.R.Ring.listed sheet.old.cursor sheet.old.count list.old) (sheet_of P.R.Ring.exact P.R.Ring.listed sheet.new.cursor sheet.new.count list.new) }
     ensures listed { Grown sheet.old.count sheet.new.count list.old list.new }
     ensures kept { P.Placer.plan sheet.new.placer ≡ P.Placer.plan sheet.old.placer }

@@ -1,4 +1,4 @@
-use Rattle.std.proofs.Common.{◌≡◌, ℕ, List, length, map, take, Some, None, Option, Ok, Err, Result, MatchResult, MatchOption, sym, refl, ap, ◌∙◌, subst}
+use Rattle.std.proofs.Common.{◌≡◌, List, length, map, take, MatchOption, sym, ap, ◌∙◌, subst}
 use Rattle.chains.specs.Books.{book_of}
 use Rattle.chains.specs.Counts.{reading}
 use Rattle.chains.specs.Placements.{outlines}

@@ -1,10 +1,9 @@
-use Rattle.std.proofs.Common.{◌≡◌, ℕ, length, refl, sym, ap, subst, rules, Ok, Err}
-use Rattle.calls.specs.Limits.{usable}
+use Rattle.std.proofs.Common.{◌≡◌, ℕ, length, refl, sym, subst, rules, Ok, Err}
 use Rattle.calls.specs.Records.{records}
 use Rattle.calls.specs.Sheets.{Sheet}
-use Rattle.calls.specs.Moves.{descending, laying, setting_aside}
-use Rattle.calls.specs.Views.{sheet_of, cursor_at}
-use Rattle.runs.specs.Runs.{moving, saving, resuming}
+use Rattle.calls.specs.Moves.{descending, setting_aside}
+use Rattle.calls.specs.Views.{sheet_of}
+use Rattle.runs.specs.Runs.{moving, resuming}
 use Rattle.conservation.specs.declared.answer.Answer.TheVariants.{Laid, Saved, Refused}
 use Rattle.conservation.specs.Answered.{call_view, told, Does}
 use Rattle.conservation.proofs.Stepping.{descend_does, aside_does, lay_does}

@@ -1,4 +1,4 @@
-use Rattle.std.proofs.Common.{◌≡◌, ◌<◌, ◌≤◌, [], length, Some, IfOk, sym, ap, subst, arith}
+use Rattle.std.proofs.Common.{◌≡◌, ◌<◌, ◌≤◌, [], length, Some, Ok, Err, IfOk, sym, ap, subst, arith}
 use Rattle.calls.specs.Limits.{usable}
 use Rattle.calls.specs.Records.{records}
 use Rattle.calls.specs.Sheets.{Sheet, AtNode, descend, lay_by}
@@ -7,6 +7,7 @@ use Rattle.sheet.specs.Answers.{Does, Answers, entry_at}
 use Rattle.whole_jobs.specs.Whole.{steps_left}
 use Rattle.whole_jobs.proofs.Listing.{one_written, has_room}
 use Rattle.whole_jobs.proofs.Steps.{refused_same, steps_down, down_nearer, laid_there, laid_one, is_stuck, stops}
+use Rattle.whole_jobs.proofs.Leading.{led_down, led_by_laying}
 use Rattle.whole_jobs.proofs.Levels.{no_deeper, above, at_depth, has_children}
 use Rattle.whole_jobs.proofs.laying.step_on.Goals as goal
 
@@ -69,3 +70,24 @@ returns-clause-listed g c =
     let w = c.in_ok-lay.ensures.listed in
     let one = laid_there E N s (cursor_view c.args.cursor) (ap cursor_at c.requires) g.row.P-R.Denot (usable (length list)) l.0 (Answers E v N l.0) t c.in_ok-lay.field-0 l.2 in
     one_written o.count n.count list c.lay.new.list w.1.0 (has_room E f o.count list one.room) w.0 w.1.1
+
+-- ---- led on
+pub returns-then-from-job-clause-led : goal.returns-then-from-job-clause-led
+returns-then-from-job-clause-led g c sound =
+    let E = g.P.R.Ring.exact in let f = g.P.R.Ring.listed in
+    let o = c.args.sheet.now in let n = c.descend.new.self in let N = g.P.Placer.plan o.placer in let list = c.args.list.now in
+    let s : Sheet E = sheet_of E f o.cursor o.count list in
+    let does = subst (λ k. Does E (descend E N s) (λ _. Unit {0}) c.descend.result s (sheet_of E f n.cursor k list)) (sym c.descend.ensures.kept.1) (c.descend.ensures.does (records E f o.count list)) in
+    led_down E N (usable (length list)) (λ _. Unit {0}) c.descend.result s (sheet_of E f n.cursor n.count list) does
+
+pub returns-in_err-lay-clause-led : goal.returns-in_err-lay-clause-led
+returns-in_err-lay-clause-led g c sound =
+    let E = g.P.R.Ring.exact in let v = g.P.R.Ring.value in let f = g.P.R.Ring.listed in
+    let o = c.args.sheet.now in let n = c.lay.new.self in let N = g.P.Placer.plan o.placer in let list = c.args.list.now in
+    led_by_laying E N (usable (length list)) v (g.P.Placer.sound o.placer) (Err c.in_err-lay.field-0.0) (sheet_of E f o.cursor o.count list) (sheet_of E f n.cursor n.count c.lay.new.list) sound c.in_err-lay.ensures.lays
+
+pub returns-clause-led : goal.returns-clause-led
+returns-clause-led g c sound =
+    let E = g.P.R.Ring.exact in let v = g.P.R.Ring.value in let f = g.P.R.Ring.listed in
+    let o = c.args.sheet.now in let n = c.lay.new.self in let N = g.P.Placer.plan o.placer in let list = c.args.list.now in
+    led_by_laying E N (usable (length list)) v (g.P.Placer.sound o.placer) (Ok c.in_ok-lay.field-0) (sheet_of E f o.cursor o.count list) (sheet_of E f n.cursor n.count c.lay.new.list) sound c.in_ok-lay.ensures.lays
