@@ -6,7 +6,8 @@ use Rattle.exact.specs.JobNumbers.{JobNumbers}
 use Rattle.calls.specs.Limits.{usable}
 use Rattle.calls.specs.Records.{Record}
 use Rattle.calls.specs.Sheets.{Sheet, no_room}
-use Rattle.calls.specs.Fits.{Fits, Unfit, FirstUnfit, ListUnfit}
+use Rattle.calls.specs.Fits.{Fits, ListUnfit}
+use Rattle.calls.proofs.Firsts.{no_first}
 use Rattle.calls.specs.declared.fault.ListFault.{ListFault}
 use Rattle.calls.specs.declared.fault.ListFault.TheVariants.{Short, BeyondLimits, Ring}
 use Rattle.files.specs.Files.{saved}
@@ -37,22 +38,10 @@ told_save (Err f) = Refused f
 
 -- ---- records that fit are not refused
 module _ (E : Cyclotomic) (N : JobNumbers) (rs : List (Record E)) where
-  all_at : (before : List (Record E)) (r : Record E) (after : List (Record E)) → AllByRecursion (Fits E N) (before ++ r ∷ after) → Fits E N r
-  all_at [] r after h = h.0
-  all_at (x ∷ before) r after h = all_at before r after h.1
-
-  not_unfit : (r : Record E) (f : ListFault) → Fits E N r → Unfit E N r f → ⊥
-  not_unfit r (Short f) h u = u
-  not_unfit r BeyondLimits h u = u h.0
-  not_unfit r (Ring f) h u = u.1 h.1
-
-  pub no_first : (f : ListFault) → AllByRecursion (Fits E N) rs → FirstUnfit E N rs f → ⊥
-  no_first f h u = not_unfit u.first f (all_at u.before u.first u.after (subst (AllByRecursion (Fits E N)) u.whole h)) u.unfit
-
   all_read : (places : ℕ) (f : ListFault) → length rs ≤ places → AllByRecursion (Fits E N) rs → ListUnfit E N places (length rs) rs f → ⊥
   all_read places (Short f) l h u = omega arith
-  all_read places BeyondLimits l h u = no_first BeyondLimits h u.1
-  all_read places (Ring f) l h u = no_first (Ring f) h u.1
+  all_read places BeyondLimits l h u = no_first E N rs BeyondLimits h u.1
+  all_read places (Ring f) l h u = no_first E N rs (Ring f) h u.1
 
 module _ {S : Type 0} (E : Cyclotomic) (v : S → E.Elem) (N : JobNumbers) (room : ℕ) where
   -- ---- save

@@ -92,13 +92,13 @@ Small {E} rs = AllByRecursion (λ (r : Record E). r.descents < 16) rs
 
 module _ (E : Cyclotomic) (N : JobNumbers) where
   -- ---- a call more, told
-  told_descended : (s : Sheet E) (c : Cursor) → s.cursor ≡ Some c → told (descended E N s c) ≡ told s ++ descending ∷ []
+  pub told_descended : (s : Sheet E) (c : Cursor) → s.cursor ≡ Some c → told (descended E N s c) ≡ told s ++ descending ∷ []
   told_descended s c e =
       ap (◌++◌ (flat_map record_calls s.records)) (sym (replicate-append-replicate c.descents 1 descending))
       ∙ sym (append_assoc (flat_map record_calls s.records) _ _)
       ∙ ap (λ o. (flat_map record_calls s.records ++ replicate (last_byte o) descending) ++ descending ∷ []) (sym e)
 
-  told_recorded : (s : Sheet E) (c : Cursor) (laid : Option (Placement E)) → s.cursor ≡ Some c → told (recorded E N s c laid) ≡ told s ++ closing laid ∷ []
+  pub told_recorded : (s : Sheet E) (c : Cursor) (laid : Option (Placement E)) → s.cursor ≡ Some c → told (recorded E N s c laid) ≡ told s ++ closing laid ∷ []
   told_recorded s c laid e =
       ap (λ n. flat_map record_calls (s.records ++ record { descents = c.descents; laid = laid } ∷ []) ++ replicate n descending) (fresh (advance N c.node))
       ∙ append-nil _

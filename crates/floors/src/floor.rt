@@ -1,11 +1,10 @@
 // A floor: a whole job, laid, finished and listed.
 ghost use Rattle.std.specs.Prelude.{◌≡◌, ◌≤◌, ◌++◌, length, drop, MatchResult};
 ghost use Rattle.jobs.specs.Jobs.{numbers};
-ghost use Rattle.job_check.specs.Checks.{Passes};
 ghost use Rattle.ring_jobs.specs.Fitted.{fitted_job};
 ghost use Rattle.ring_jobs.specs.RingJobs.{job_numbers};
 ghost use Rattle.calls.specs.Limits.{usable, most_pieces};
-ghost use Rattle.floors.specs.Floors.{floor_list, NoList, NoFloor};
+ghost use Rattle.floors.specs.Floors.{floor_list, AllLaid, NoList, NoFloor};
 ghost use Rattle.floors.specs.declared.fault.FloorFault.TheVariants.{Memory};
 
 use crate::fault::FloorFault;
@@ -22,7 +21,7 @@ use sheet::fault::SheetFault;
 use std::alloc::{AllocError, Global};
 use whole_jobs::job::{Stopped, lay_job};
 
-// The bytes that are lent for a cutting list: a line of a piece in a named ring has at most 42.
+// The bytes that are lent for a cutting list. They are enough: a line of a piece in a named ring has at most 42.
 const MOST_BYTES: usize = 262144;
 
 // The job over a ring. Its coefficients are small, so only memory can be wanting.
@@ -45,7 +44,7 @@ fn listed<R: Ring>(
     text: &mut [u8],
 ) -> Result<usize, SheetFault<R>>
     ensures { let E = R.exact in let N = job_numbers E R.value job in MatchResult result
-        (λ n. Passes E N × (n ≡ length (floor_list E N)) × (n ≤ length text.old) × (text.new ≡ floor_list E N ++ drop n text.old))
+        (λ n. AllLaid E N (usable (length list.old)) × (n ≡ length (floor_list E N)) × (n ≤ length text.old) × (text.new ≡ floor_list E N ++ drop n text.old))
         (λ f. NoList E N R.value (usable (length list.old)) (length text.old) f) }
 {
     let placer = Memo::new(Descent::new(job));
@@ -65,7 +64,7 @@ fn listed<R: Ring>(
 // The cutting list of a whole job: a line for each piece, in order.
 pub fn cutting_list_of<R: Ring>(heap: Global, job: &Job) -> Result<Vec<u8>, FloorFault<R>>
     ensures { let E = R.exact in MatchResult result
-        (λ text. Passes E (numbers job.now) × (text.items ≡ floor_list E (numbers job.now)))
+        (λ text. AllLaid E (numbers job.now) most_pieces × (text.items ≡ floor_list E (numbers job.now)))
         (λ f. NoFloor E (fitted_job E.d (numbers job.now)) R.value most_pieces f) }
 {
     let over = over_ring::<R>(heap, job)?;

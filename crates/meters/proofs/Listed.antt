@@ -11,10 +11,10 @@ use Rattle.chains.specs.Edges.{Edge}
 use Rattle.chains.specs.Placements.{outlines}
 use Rattle.chains.specs.Theorems.{RealLengths}
 use Rattle.rings.specs.declared.fault.RingFault.{RingFault}
-use Rattle.chains.proofs.Lists.{all_back}
 use Rattle.edges.proofs.Gather.{all_row}
 use Rattle.calls.specs.Records.{Record, with_laid, laid_pieces}
-use Rattle.calls.specs.Fits.{Fits, PieceOnPlane, Unfit, FirstUnfit, ListUnfit}
+use Rattle.calls.specs.Fits.{Fits, PieceOnPlane, ListUnfit}
+use Rattle.calls.proofs.Firsts.{no_first}
 use Rattle.calls.specs.declared.fault.ListFault.{ListFault}
 use Rattle.calls.specs.declared.fault.ListFault.TheVariants.{Short, BeyondLimits, Ring}
 use Rattle.meters.specs.Pieces.{CornersKept, Readable, Unreadable}
@@ -32,20 +32,11 @@ module _ (E : Cyclotomic) (N : JobNumbers) where
   unfit_unread room count rs BeyondLimits h = h
   unfit_unread room count rs (Ring f) h = inl h
 
-  -- a record that fits has no fault
-  no_fault : (r : Record E) (f : ListFault) → Fits E N r → Unfit E N r f → ⊥
-  no_fault r (Short f) h u = u
-  no_fault r BeyondLimits h u = u h.0
-  no_fault r (Ring f) h u = u.1 h.1
-
-  no_first : (rs : List (Record E)) (f : ListFault) → AllByRecursion (Fits E N) rs → FirstUnfit E N rs f → ⊥
-  no_first rs f h u = no_fault u.first f (all_back (Fits E N) u.before (u.first ∷ u.after) (subst (AllByRecursion (Fits E N)) u.whole h)).0 u.unfit
-
   -- what can be read is not refused
   pub read_unrefused : (room count : ℕ) (rs : List (Record E)) (f : ListFault) → Readable E N room count rs → Unreadable E N room count rs f → ⊥
   read_unrefused room count rs (Short f) h u = let l = h.long in omega arith
-  read_unrefused room count rs BeyondLimits h u = no_first rs BeyondLimits h.fit u.1
-  read_unrefused room count rs (Ring f) h (inl u) = no_first rs (Ring f) h.fit u.1
+  read_unrefused room count rs BeyondLimits h u = no_first E N rs BeyondLimits h.fit u.1
+  read_unrefused room count rs (Ring f) h (inl u) = no_first E N rs (Ring f) h.fit u.1
   read_unrefused room count rs (Ring f) h (inr u) = u.2 h.kept
 
   kept_before : (o : Option (Placement E)) (ps : List (Placement E)) → CornersKept E N (with_laid o ps) → CornersKept E N (with_laid o []) × CornersKept E N ps

@@ -46,6 +46,12 @@ module _ (E : Cyclotomic) (N : JobNumbers) where
   unfolding kept_way node_placement
   node_place a h = let k = and_parts _ _ h in below_on_plane (seed_placement E N a.seed) a.path (plane_yes E _ k.0) k.1
 
+  pub place_there : (a : Address) (p : Placement E) → table E N a ≡ there p → OnPlane E p.place
+  unfolding node_on_plane
+  place_there a p e =
+      let t = table_there E N a p e in
+      subst (λ (q : Placement E). OnPlane E q.place) (sym t.2) (node_place a (and_parts _ _ t.1).0)
+
   module _ (B : Branching N) where
     -- ---- what lay records
     laid_readable : (d : ℕ) (a : Address) (p : Placement E) → d ≤ level a → level a ≡ N.depth → table E N a ≡ there p → Readable (record { descents = d; laid = Some p })
@@ -54,7 +60,7 @@ module _ (E : Cyclotomic) (N : JobNumbers) where
         let t = table_there E N a p e in
         let k = and_parts _ _ t.1 in
         let low = B.shallow in (
-          (((omega (arith, h, l, low)), subst (λ n. n < length N.tiles) (sym (ap (λ (q : Placement E). q.tile) t.2 ∙ node_placement_tile E N a)) (named N B a)), subst (λ (q : Placement E). OnPlane E q.place) (sym t.2) (node_place a k.0)),
+          (((omega (arith, h, l, low)), subst (λ n. n < length N.tiles) (sym (ap (λ (q : Placement E). q.tile) t.2 ∙ node_placement_tile E N a)) (named N B a)), place_there a p e),
           subst (λ q. kept_corners E (book_of E N) q ≡ true) (sym t.2) k.1,
         )
 

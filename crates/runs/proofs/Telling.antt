@@ -10,28 +10,17 @@ use Rattle.calls.specs.Moves.{Move, descending}
 use Rattle.calls.proofs.Moving.{Moved, Replayed}
 use Rattle.calls.proofs.Moving as moving
 use Rattle.files.specs.Files.{last_byte}
-use Rattle.files.proofs.Kept.{told, closing, record_calls, flat_map_snoc, fresh}
+use Rattle.files.proofs.Kept.{told, record_calls, fresh, told_descended, told_recorded}
 
 pub told_alike : {E : Cyclotomic} (s t : Sheet E) → s.records ≡ t.records → last_byte s.cursor ≡ last_byte t.cursor → told s ≡ told t
 told_alike s t e f = ap₂ (λ rs n. flat_map record_calls rs ++ replicate n descending) e f
 
 module _ (E : Cyclotomic) (N : JobNumbers) where
-  told_recorded : (s : Sheet E) (c : Cursor) (laid : Option (Placement E)) → s.cursor ≡ Some c → told (recorded E N s c laid) ≡ told s ++ closing laid ∷ []
-  told_recorded s c laid e =
-      ap (λ n. flat_map record_calls (s.records ++ record { descents = c.descents; laid = laid } ∷ []) ++ replicate n descending) (fresh (advance N c.node))
-      ∙ append-nil _
-      ∙ flat_map_snoc record_calls s.records (record { descents = c.descents; laid = laid })
-      ∙ sym (append_assoc (flat_map record_calls s.records) _ _)
-      ∙ ap (λ o. (flat_map record_calls s.records ++ replicate (last_byte o) descending) ++ closing laid ∷ []) (sym e)
-
   -- a call more
   told_moved : (places : ℕ) (m : Move) (s t : Sheet E) → Moved E N places m s t → told t ≡ told s ++ m ∷ []
-  told_moved places _ _ _ (moving.descends s c e below) =
-      ap (◌++◌ (flat_map record_calls s.records)) (sym (replicate-append-replicate c.descents 1 descending))
-      ∙ sym (append_assoc (flat_map record_calls s.records) _ _)
-      ∙ ap (λ o. (flat_map record_calls s.records ++ replicate (last_byte o) descending) ++ descending ∷ []) (sym e)
-  told_moved places _ _ _ (moving.lays s c p e at room f) = told_recorded s c (Some p) e
-  told_moved places _ _ _ (moving.sets_aside s c e room) = told_recorded s c None e
+  told_moved places _ _ _ (moving.descends s c e below) = told_descended E N s c e
+  told_moved places _ _ _ (moving.lays s c p e at room f) = told_recorded E N s c (Some p) e
+  told_moved places _ _ _ (moving.sets_aside s c e room) = told_recorded E N s c None e
 
   told_replayed : (places : ℕ) (ms : List Move) (s t : Sheet E) → Replayed E N places ms s t → told t ≡ told s ++ ms
   told_replayed places _ _ _ (moving.done s) = sym (append-nil (told s))

@@ -4,7 +4,6 @@ ghost use Rattle.job_check.specs.Checks.{Passes};
 ghost use Rattle.calls.specs.Sheets.{start, AtNode};
 ghost use Rattle.calls.specs.Views.{cursor_at};
 ghost use Rattle.calls.specs.declared.cursor.Cursor.{Cursor};
-ghost use Rattle.ring_jobs.specs.RingJobs.{job_numbers};
 ghost use Rattle.sheet.specs.Ends.{NotStarted};
 ghost use Rattle.sheet.specs.declared.fault.SheetFault.TheVariants.{StillPending};
 
@@ -13,7 +12,6 @@ use crate::open::{Finished, Open, Unfinished, Unstarted};
 use calls::cursor::Cursor;
 use job_check::check::check_job;
 use placer::placer::Placer;
-use ring_jobs::job::RingJob;
 use std::alloc::Global;
 
 impl<P: Placer> Open<P> {
@@ -70,52 +68,5 @@ impl<P: Placer> Open<P> {
             count,
         } = self;
         Ok(Finished { placer, count })
-    }
-}
-
-impl<P: Placer> Open<P> {
-    // Where the cursor stands: None when nothing is left.
-    pub fn cursor(&self) -> Option<Cursor>
-        ensures { result ≡ self.now.cursor }
-    {
-        self.cursor
-    }
-
-    // How many records the list has.
-    pub fn count(&self) -> usize
-        ensures { result ≡ self.now.count }
-    {
-        self.count
-    }
-
-    // The job, as its placer has it.
-    pub fn job(&self) -> &RingJob<P::R>
-        ensures { job_numbers P.R.Ring.exact P.R.Ring.value result.now ≡ P.Placer.plan self.now.placer }
-    {
-        self.placer.job()
-    }
-}
-
-impl<P: Placer> Finished<P> {
-    // The placer again, for another sheet.
-    pub fn into_placer(self) -> P
-        ensures { result ≡ self.placer }
-    {
-        let Finished { placer, count: _ } = self;
-        placer
-    }
-
-    // How many records the list has.
-    pub fn count(&self) -> usize
-        ensures { result ≡ self.now.count }
-    {
-        self.count
-    }
-
-    // The job, as its placer has it.
-    pub fn job(&self) -> &RingJob<P::R>
-        ensures { job_numbers P.R.Ring.exact P.R.Ring.value result.now ≡ P.Placer.plan self.now.placer }
-    {
-        self.placer.job()
     }
 }

@@ -18,6 +18,8 @@ mod law_cases;
 #[cfg(test)]
 mod node_cases;
 #[cfg(test)]
+mod reply_cases;
+#[cfg(test)]
 mod ring_cases;
 #[cfg(test)]
 mod sheet_cases;

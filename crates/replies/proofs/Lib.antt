@@ -1,0 +1,3 @@
+mod Replying
+mod Front
+mod Alone
