@@ -1,5 +1,5 @@
 -- A call on a sheet does what the run's call does: save and resume.
-use Rattle.std.proofs.Common.{◌≡◌, ℕ, ◌≤◌, Bool, true, false, if◌then◌else◌, nat_le, List, ◌∷◌, ◌++◌, length, drop, Option, Ok, Err, Result, MatchResult, sym, refl, ap, ◌∙◌, subst, arith, le-leb}
+use Rattle.std.proofs.Common.{◌≡◌, ℕ, ◌≤◌, Bool, true, false, if◌then◌else◌, nat_le, List, ◌++◌, length, drop, Option, Ok, Err, Result, MatchResult, sym, refl, ap, ◌∙◌, subst, arith, le-leb}
 use Rattle.std.specs.List.{AllByRecursion}
 use Rattle.exact.specs.Cyclotomic.{Cyclotomic}
 use Rattle.exact.specs.JobNumbers.{JobNumbers}
@@ -21,7 +21,7 @@ use Rattle.conservation.specs.declared.answer.Answer.{Answer}
 use Rattle.conservation.specs.declared.answer.Answer.TheVariants.{Went, Saved, Refused}
 use Rattle.conservation.specs.Answered.{told, reason_fault, Answers, written, Does}
 use Rattle.std.proofs.lemmas.List.{length-drop}
-use Rattle.std.proofs.Common.{[], length-append, leb-true, ℤ, take}
+use Rattle.std.proofs.Common.{length-append, leb-true, ℤ, take}
 use Rattle.std.proofs.lemmas.List.{length-map, length-take}
 use Rattle.calls.specs.Records.{records, row_view}
 use Rattle.calls.specs.Views.{sheet_of}

@@ -3,3 +3,4 @@ pub mod Running
 pub mod Filing
 pub mod Conserved
 pub mod Ending
+pub mod Applied

@@ -1,2 +1,3 @@
 pub mod Answered
 pub mod Law
+pub mod TwoBooks

@@ -3,6 +3,7 @@
 
 pub mod answer;
 pub mod call;
+pub mod examples;
 pub mod law;
 mod making;
 pub mod memoized;

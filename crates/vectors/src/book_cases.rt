@@ -1,5 +1,5 @@
 // Jobs with one line of their text put otherwise: what the check of their book tells.
-use crate::books::{chair, penrose};
+use crate::books::{CHAIR, PENROSE};
 use book::fault::{BookFault, Difference};
 use edges::rows::Edge;
 use gaussian::Gaussian;
@@ -137,12 +137,12 @@ fn unbalanced<R: SmallRing, const D: usize>(
 
 #[test]
 fn damaged_books_are_refused(rt: HostRuntime) -> Result<(), Fail> {
-    damaged::<Gaussian>(&rt, rt.alloc(), chair(), &DAMAGED_CHAIR)?;
-    damaged::<Tenfold>(&rt, rt.alloc(), penrose(), &DAMAGED_PENROSE)
+    damaged::<Gaussian>(&rt, rt.alloc(), CHAIR, &DAMAGED_CHAIR)?;
+    damaged::<Tenfold>(&rt, rt.alloc(), PENROSE, &DAMAGED_PENROSE)
 }
 
 #[test]
 fn the_first_unbalanced_edge_is_told(rt: HostRuntime) -> Result<(), Fail> {
-    unbalanced::<Gaussian, 2>(&rt, rt.alloc(), chair(), &UNBALANCED_CHAIR)?;
-    unbalanced::<Tenfold, 4>(&rt, rt.alloc(), penrose(), &UNBALANCED_PENROSE)
+    unbalanced::<Gaussian, 2>(&rt, rt.alloc(), CHAIR, &UNBALANCED_CHAIR)?;
+    unbalanced::<Tenfold, 4>(&rt, rt.alloc(), PENROSE, &UNBALANCED_PENROSE)
 }

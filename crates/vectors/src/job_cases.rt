@@ -1,5 +1,5 @@
 // Jobs over a ring: their check, and where their nodes lie, asked of each placer.
-use crate::books::{chair, penrose};
+use crate::books::{CHAIR, PENROSE};
 use edges::rows::Placed;
 use gaussian::Gaussian;
 use job_check::check::judged;
@@ -93,24 +93,21 @@ fn penrose_children<P: Placer>(rt: &impl Abort, placer: &mut P) {
 
 #[test]
 fn both_books_pass(rt: HostRuntime) -> Result<(), Fail> {
-    let _ = judged_job::<Gaussian>(rt.alloc(), chair())?;
-    let _ = judged_job::<Tenfold>(rt.alloc(), penrose())?;
-    refused::<Tenfold>(&rt, rt.alloc(), chair(), 13, 0, Layer::Sheet)?;
-    refused::<Gaussian>(&rt, rt.alloc(), penrose(), 13, 0, Layer::Sheet)
+    let _ = judged_job::<Gaussian>(rt.alloc(), CHAIR)?;
+    let _ = judged_job::<Tenfold>(rt.alloc(), PENROSE)?;
+    refused::<Tenfold>(&rt, rt.alloc(), CHAIR, 13, 0, Layer::Sheet)?;
+    refused::<Gaussian>(&rt, rt.alloc(), PENROSE, 13, 0, Layer::Sheet)
 }
 
 #[test]
 fn placers_answer_alike(rt: HostRuntime) -> Result<(), Fail> {
-    let mut plain = Descent::new(judged_job::<Gaussian>(rt.alloc(), chair())?);
+    let mut plain = Descent::new(judged_job::<Gaussian>(rt.alloc(), CHAIR)?);
     chair_children(&rt, &mut plain);
-    let mut memo = Memo::new(Descent::new(judged_job::<Gaussian>(rt.alloc(), chair())?));
+    let mut memo = Memo::new(Descent::new(judged_job::<Gaussian>(rt.alloc(), CHAIR)?));
     chair_children(&rt, &mut memo);
-    let mut twice = Memo::new(Memo::new(Descent::new(judged_job::<Gaussian>(
-        rt.alloc(),
-        chair(),
-    )?)));
+    let mut twice = Memo::new(Memo::new(Descent::new(judged_job::<Gaussian>(rt.alloc(), CHAIR)?)));
     chair_children(&rt, &mut twice);
-    let mut marked = Memo::new(Descent::new(judged_job::<Tenfold>(rt.alloc(), penrose())?));
+    let mut marked = Memo::new(Descent::new(judged_job::<Tenfold>(rt.alloc(), PENROSE)?));
     penrose_children(&rt, &mut marked);
     Ok(())
 }

@@ -1,6 +1,7 @@
 // Where the nodes of deeper jobs lie, asked of each placer in several orders.
-use crate::books::{chair, penrose};
+use crate::books::{CHAIR, FAR_SQUARE, PENROSE};
 use crate::job_cases::lies;
+use crate::replanted::job_of;
 use gaussian::Gaussian;
 use jobs::reading::read;
 use nodes::address::Address;
@@ -8,10 +9,9 @@ use placer::descent::Descent;
 use placer::memo::Memo;
 use placer::placer::Placer;
 use refusals::Fault;
-use ring_jobs::job::RingJob;
 use ring_jobs::making::over;
 use rings::ring::Ring;
-use std::alloc::{AllocError, Global};
+use std::alloc::Global;
 use std::process::Abort;
 use std::test::Fail;
 use tenfold::Tenfold;
@@ -75,35 +75,6 @@ const NO_CHAIR_NODES: [(u16, &[u8]); 5] = [
     (65535, &[0]),
 ];
 
-// A square of side 1, cut into sixteen when enlarged fourfold, with a seed so far out that its descendants leave the plane.
-pub(crate) const FAR_SQUARE: &str = concat!(
-    "R 4\nI 4 0\nL 0 1 0\nS 0 1 0 1 0 1 0 1\nT 0 1 0 0 1 1 0 1 2 0 1 3\n",
-    "C 0 0 0 0 0\nC 0 0 0 1 0\nC 0 0 0 2 0\nC 0 0 0 3 0\n",
-    "C 0 0 0 0 1\nC 0 0 0 1 1\nC 0 0 0 2 1\nC 0 0 0 3 1\n",
-    "C 0 0 0 0 2\nC 0 0 0 1 2\nC 0 0 0 2 2\nC 0 0 0 3 2\n",
-    "C 0 0 0 0 3\nC 0 0 0 1 3\nC 0 0 0 2 3\nC 0 0 0 3 3\n",
-    "D 12\nP 0 0 0 16 0\n",
-);
-
-// The book of a text, with another depth and other seeds.
-pub(crate) fn job_of<R: Ring>(heap: Global, book: &str, seeds: &str) -> Result<RingJob<R>, Fail> {
-    let text = text_of(heap, book, seeds)?;
-    let job = read(heap, text.as_bytes())?;
-    over(heap, &job).map_err(|_| Fail::new("no memory"))
-}
-
-pub(crate) fn text_of(heap: Global, book: &str, seeds: &str) -> Result<String, AllocError> {
-    let mut text = String::new(heap);
-    for line in book
-        .split_inclusive('\n')
-        .take_while(|l| !l.starts_with('D'))
-    {
-        text.push_str(line)?;
-    }
-    text.push_str(seeds)?;
-    Ok(text)
-}
-
 fn address(seed: u16, children: &[u8]) -> Result<Address, Fail> {
     let mut path = [0; 12];
     for (to, k) in path.iter_mut().zip(children) {
@@ -164,8 +135,8 @@ fn asked_of_each<R: Ring>(
 
 #[test]
 fn every_order_gives_the_table(rt: HostRuntime) -> Result<(), Fail> {
-    asked_of_each::<Gaussian>(&rt, rt.alloc(), chair(), CHAIR_SEEDS, &CHAIR_NODES)?;
-    asked_of_each::<Tenfold>(&rt, rt.alloc(), penrose(), PENROSE_SEEDS, &PENROSE_NODES)
+    asked_of_each::<Gaussian>(&rt, rt.alloc(), CHAIR, CHAIR_SEEDS, &CHAIR_NODES)?;
+    asked_of_each::<Tenfold>(&rt, rt.alloc(), PENROSE, PENROSE_SEEDS, &PENROSE_NODES)
 }
 
 // The number of the refusal of an address.
@@ -176,7 +147,7 @@ fn refusal<P: Placer>(placer: &mut P, seed: u16, children: &[u8]) -> Result<Opti
 
 #[test]
 fn no_node_is_placed(rt: HostRuntime) -> Result<(), Fail> {
-    let mut memo = Memo::new(Descent::<Gaussian>::new(job_of(rt.alloc(), chair(), CHAIR_SEEDS)?));
+    let mut memo = Memo::new(Descent::<Gaussian>::new(job_of(rt.alloc(), CHAIR, CHAIR_SEEDS)?));
     for (seed, children) in &NO_CHAIR_NODES {
         assert!(rt; refusal(&mut memo, *seed, children)? == Some(3));
         assert!(rt; is_right(&mut memo, &CHAIR_NODES[2])?);

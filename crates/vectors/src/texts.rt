@@ -1,7 +1,7 @@
 // Texts of jobs, each at an edge of a rule.
 #[cfg(test)]
 mod tests {
-    use crate::books::{chair, penrose};
+    use crate::books::{CHAIR, PENROSE};
     use faults::TextFault;
     use jobs::reading::read;
     use refusals::Fault;
@@ -171,7 +171,7 @@ mod tests {
     // The first lines of the chair's text, and then the bytes of a row.
     fn text_of(heap: Global, keep: usize, own: &str) -> Result<String, AllocError> {
         let mut text = String::new(heap);
-        for line in chair().split_inclusive('\n').take(keep) {
+        for line in CHAIR.split_inclusive('\n').take(keep) {
             text.push_str(line)?;
         }
         text.push_str(own.replace(heap, '/', "\n")?.as_str())?;
@@ -205,8 +205,8 @@ mod tests {
 
     #[test]
     fn both_ways(rt: HostRuntime) -> Result<(), Fail> {
-        comes_back(&rt, rt.alloc(), chair().as_bytes(), "chair")?;
-        comes_back(&rt, rt.alloc(), penrose().as_bytes(), "penrose")?;
+        comes_back(&rt, rt.alloc(), CHAIR.as_bytes(), "chair")?;
+        comes_back(&rt, rt.alloc(), PENROSE.as_bytes(), "penrose")?;
         for own in &ACCEPTED {
             let text = text_of(rt.alloc(), 5, own)?;
             comes_back(&rt, rt.alloc(), text.as_bytes(), own)?;
@@ -220,7 +220,7 @@ mod tests {
         let spaces = [b' '; 16385];
         assert!(rt; read(rt.alloc(), &spaces[0..16384]).err() == Some(TextFault::Misspelt(1)));
         assert!(rt; read(rt.alloc(), &spaces).err() == Some(TextFault::Overlong));
-        let job = read(rt.alloc(), chair().as_bytes())?;
+        let job = read(rt.alloc(), CHAIR.as_bytes())?;
         let mut buffer = [7; 140];
         assert!(rt; job.write(&mut buffer[0..100]).is_err());
         assert!(rt; buffer[0] == 7);

@@ -84,5 +84,5 @@ module _ (E : Cyclotomic) (L : CyclotomicLaws E) (N : JobNumbers) (B : Branching
         accepted = e;
         leads = ap (λ (z : State E). z.sheet) same ∙ retraced_sheet E N (usable room) ms (start E N) t (moving.is_replayed E N (usable room) ms (start E N) t e) (begun E N) (begun_sheet E N);
         none_aside = ap (λ (z : State E). z.aside) same ∙ keeps_aside E N (usable room) ms f (begun E N) ∙ none_at_first;
-        closed = stays_closed E L N B K room (map runs.moving ms);
+        closed = stays_closed E L N B K.judged.accepted room (map runs.moving ms);
       }

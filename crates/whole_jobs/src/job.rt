@@ -49,6 +49,7 @@ impl<P: Placer> From<Unfinished<P>> for Stopped<P> {
 
 // Lays all pieces of a placer's job, in order, from the first place of a list on. The check of the job stands before: refused by it, nothing is laid.
 // Else it is refused at the first piece that cannot be laid: 9 with no free place, 8 off the plane. The pieces before it are in the list then.
+// Laid whole or not, its calls on the sheet are a run that keeps the law of conservation (specs/Job.antt, LedByARun).
 pub fn lay_job<P: Placer>(
     heap: Global,
     placer: P,

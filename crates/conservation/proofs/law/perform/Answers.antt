@@ -17,7 +17,7 @@ use Rattle.conservation.proofs.law.perform.Goals as goal
 pub returns-clause-law : goal.returns-clause-law
 returns-clause-law g c =
     let E = g.P.R.Ring.exact in let N = g.P.Placer.plan c.args.placer in
-    conserves E g.met.P.R.Ring.lawful N (g.met.P.Placer.branching c.args.placer) c.in_ok-sheet.ensures.starts.0 g.M.Meter.group g.met.M.Meter.lawful
+    conserves E g.met.P.R.Ring.lawful N (g.met.P.Placer.branching c.args.placer) c.in_ok-sheet.ensures.starts.0.judged.accepted g.M.Meter.group g.met.M.Meter.lawful
     (g.M.Meter.reads c.args.meter.now E g.P.R.Ring.value (book_of E N)) (g.met.M.Meter.reads_edges c.args.meter.now (book_of E N)) (length c.args.list.now) (map (call_view (length c.args.buffer.now)) c.args.calls.now)
 
 pub returns-clause-runs : goal.returns-clause-runs

@@ -15,7 +15,7 @@ pub returns-in-Ok-clause-law : goal.returns-in-Ok-clause-law
 returns-in-Ok-clause-law g c sound calls =
     let E = g.P.R.Ring.exact in let N = g.P.Placer.plan c.args.placer in
     let w = c.in_ok-sheet.ensures.lays sound in
-    conserves E g.met.P.R.Ring.lawful N (g.met.P.Placer.branching c.args.placer) w.passes g.M.Meter.group g.met.M.Meter.lawful
+    conserves E g.met.P.R.Ring.lawful N (g.met.P.Placer.branching c.args.placer) w.passes.judged.accepted g.M.Meter.group g.met.M.Meter.lawful
     (g.M.Meter.reads c.args.meter.now E g.P.R.Ring.value (book_of E N)) (g.met.M.Meter.reads_edges c.args.meter.now (book_of E N)) (length c.args.list.now) calls
 
 pub returns-in-Ok-clause-reads : goal.returns-in-Ok-clause-reads

@@ -1,6 +1,5 @@
 // Runs of calls through the call whose contract holds the law of conservation.
-use crate::books::{chair, penrose};
-use crate::node_cases::job_of;
+use crate::replanted::job_of;
 use calls::row::Row;
 use conservation::answer::Answer;
 use conservation::call::Call;
@@ -21,6 +20,7 @@ use std::alloc::Global;
 use std::process::Abort;
 use std::test::Fail;
 use tenfold::Tenfold;
+use vectors::books::{CHAIR, PENROSE};
 
 const ONE_CHAIR: &str = "D 1\nP 0 0 0 0 0\n";
 
@@ -114,7 +114,7 @@ fn a_whole_chair_reads_as_its_seed(rt: HostRuntime) -> Result<(), Fail> {
     let (count, reading) = made::<Gaussian, SweepMeter>(
         &rt,
         rt.alloc(),
-        (chair(), ONE_CHAIR),
+        (CHAIR, ONE_CHAIR),
         &SweepMeter,
         &calls,
         &[0, 0, 0, 24, 10, 0, 0, 11],
@@ -133,7 +133,7 @@ fn a_whole_penrose_tile_reads_as_its_seed(rt: HostRuntime) -> Result<(), Fail> {
     let (count, reading) = made::<Tenfold, SweepMeter>(
         &rt,
         rt.alloc(),
-        (penrose(), "D 1\nP 0 0 0 0 0 0 0\n"),
+        (PENROSE, "D 1\nP 0 0 0 0 0 0 0\n"),
         &SweepMeter,
         &calls,
         &[0, 0, 0, 0],
@@ -159,7 +159,7 @@ fn a_resumed_chair_goes_on(rt: HostRuntime) -> Result<(), Fail> {
     let (count, reading) = made::<Gaussian, SweepMeter>(
         &rt,
         rt.alloc(),
-        (chair(), ONE_CHAIR),
+        (CHAIR, ONE_CHAIR),
         &SweepMeter,
         &calls,
         &[0, 0, 12, 25, 0],
@@ -182,7 +182,7 @@ fn watched(rt: &impl Abort, heap: Global, x: i64, y: i64) -> Result<i64, Fail> {
     let (_, reading) = made::<Gaussian, Watch<Gaussian>>(
         rt,
         heap,
-        (chair(), ONE_CHAIR),
+        (CHAIR, ONE_CHAIR),
         &Watch { edge },
         &calls,
         &[0, 0, 0, 0, 0],

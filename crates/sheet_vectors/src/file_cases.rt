@@ -1,11 +1,10 @@
 // Saved files: which are resumed from, which are refused and where, and what is saved.
-use crate::books::{chair, penrose};
 use crate::file_tables::{
     CHAIR_FILES, DEEP_CHAIR_FILES, FAR_FILES, FAR_RHOMBUS_FILES, FARTHER_FILES, File,
     MIRRORED_FILES, MIRRORED_RHOMBUS_FILES, PENROSE_FILES, RHOMBUS, TWO_CHAIRS_FILES,
     UNCUT_CHAIRS_FILES, WIDE_SQUARE, WIDE_SQUARE_FILES,
 };
-use crate::node_cases::{FAR_SQUARE, job_of};
+use crate::replanted::job_of;
 use calls::row::Row;
 use gaussian::Gaussian;
 use nodes::address::Address;
@@ -19,6 +18,7 @@ use std::alloc::Global;
 use std::process::Abort;
 use std::test::Fail;
 use tenfold::Tenfold;
+use vectors::books::{CHAIR, FAR_SQUARE, PENROSE};
 
 type Sheet<R> = Open<Memo<Descent<R>>>;
 
@@ -176,18 +176,18 @@ fn files_of_chairs_are_judged(rt: HostRuntime) -> Result<(), Fail> {
     let twice = "D 2\nP 0 0 0 0 0\nP 0 1 1 5 -3\n";
     let uncut = "D 0\nP 0 0 0 0 0\nP 0 1 1 5 -3\n";
     let deep = "D 12\nP 0 0 0 0 0\n";
-    judged::<Gaussian>(&rt, rt.alloc(), chair(), once, &CHAIR_FILES)?;
-    judged::<Gaussian>(&rt, rt.alloc(), chair(), twice, &TWO_CHAIRS_FILES)?;
-    judged::<Gaussian>(&rt, rt.alloc(), chair(), uncut, &UNCUT_CHAIRS_FILES)?;
-    judged::<Gaussian>(&rt, rt.alloc(), chair(), deep, &DEEP_CHAIR_FILES)
+    judged::<Gaussian>(&rt, rt.alloc(), CHAIR, once, &CHAIR_FILES)?;
+    judged::<Gaussian>(&rt, rt.alloc(), CHAIR, twice, &TWO_CHAIRS_FILES)?;
+    judged::<Gaussian>(&rt, rt.alloc(), CHAIR, uncut, &UNCUT_CHAIRS_FILES)?;
+    judged::<Gaussian>(&rt, rt.alloc(), CHAIR, deep, &DEEP_CHAIR_FILES)
 }
 
 #[test]
 fn files_of_half_kites_and_darts_are_judged(rt: HostRuntime) -> Result<(), Fail> {
     let four = "D 2\nP 0 0 0 0 0 0 0\nP 1 3 0 1 0 0 0\nP 0 7 1 0 2 0 -1\nP 1 5 1 3 -1 0 2\n";
     let mirrored = "D 4\nP 0 7 1 0 2 0 -1\n";
-    judged::<Tenfold>(&rt, rt.alloc(), penrose(), four, &PENROSE_FILES)?;
-    judged::<Tenfold>(&rt, rt.alloc(), penrose(), mirrored, &MIRRORED_FILES)
+    judged::<Tenfold>(&rt, rt.alloc(), PENROSE, four, &PENROSE_FILES)?;
+    judged::<Tenfold>(&rt, rt.alloc(), PENROSE, mirrored, &MIRRORED_FILES)
 }
 
 #[test]
@@ -226,7 +226,7 @@ fn save_chair(rt: &impl Abort, heap: Global, sheet: &mut Sheet<Gaussian>) -> Res
 
 #[test]
 fn a_sheet_is_saved(rt: HostRuntime) -> Result<(), Fail> {
-    let mut sheet = sheet_of(rt.alloc(), chair(), ONE_CHAIR)?;
+    let mut sheet = sheet_of(rt.alloc(), CHAIR, ONE_CHAIR)?;
     let done = save_chair(&rt, rt.alloc(), &mut sheet);
     let _ = sheet.into_placer();
     done
@@ -248,7 +248,7 @@ fn resume_into_two(rt: &impl Abort, heap: Global, sheet: &mut Sheet<Gaussian>) -
 
 #[test]
 fn a_short_list_is_refused_and_left_alone(rt: HostRuntime) -> Result<(), Fail> {
-    let mut sheet = sheet_of(rt.alloc(), chair(), ONE_CHAIR)?;
+    let mut sheet = sheet_of(rt.alloc(), CHAIR, ONE_CHAIR)?;
     let done = resume_into_two(&rt, rt.alloc(), &mut sheet);
     let _ = sheet.into_placer();
     done
@@ -312,7 +312,7 @@ fn resume_full(rt: &impl Abort, heap: Global, sheet: &mut Sheet<Gaussian>) -> Re
 
 #[test]
 fn a_full_list_is_saved_and_resumed(rt: HostRuntime) -> Result<(), Fail> {
-    let mut sheet = sheet_of(rt.alloc(), chair(), "D 7\nP 0 0 0 0 0\nP 0 1 1 5 -3\n")?;
+    let mut sheet = sheet_of(rt.alloc(), CHAIR, "D 7\nP 0 0 0 0 0\nP 0 1 1 5 -3\n")?;
     let done = resume_full(&rt, rt.alloc(), &mut sheet);
     let _ = sheet.into_placer();
     done
@@ -419,7 +419,7 @@ const WALK_SUM: u64 = 0x17a7c5e12d1e4c65;
 
 #[test]
 fn a_walk_comes_back(rt: HostRuntime) -> Result<(), Fail> {
-    let mut sheet = sheet_of::<Tenfold>(rt.alloc(), penrose(), WALKED)?;
+    let mut sheet = sheet_of::<Tenfold>(rt.alloc(), PENROSE, WALKED)?;
     let done = walk(&rt, rt.alloc(), &mut sheet);
     let _ = sheet.into_placer();
     done

@@ -1,10 +1,10 @@
 // What is printed for texts.
-use crate::books::{chair, penrose};
-use crate::node_cases::text_of;
+use crate::replanted::text_of;
 use replies::printing::print_reply;
 use std::alloc::Global;
 use std::process::Abort;
 use std::test::Fail;
+use vectors::books::{CHAIR, PENROSE};
 
 // Prints the reply to a text behind what is printed already, and checks it, and whether it is told as a refusal.
 fn answered(
@@ -26,10 +26,10 @@ fn answered(
 #[test]
 fn jobs_are_answered(rt: HostRuntime) -> Result<(), Fail> {
     let heap = rt.alloc();
-    let one = text_of(heap, chair(), "D 1\nP 0 0 0 0 0\n")?;
+    let one = text_of(heap, CHAIR, "D 1\nP 0 0 0 0 0\n")?;
     let list = b"0 0 0 0 0\n0 0 0 1 1\n0 1 0 4 0\n0 3 0 0 4\n".as_slice();
     answered(&rt, heap, one.as_bytes(), false, list)?;
-    let seed = text_of(heap, penrose(), "D 0\nP 0 0 1 -32 0 0 32\n")?;
+    let seed = text_of(heap, PENROSE, "D 0\nP 0 0 1 -32 0 0 32\n")?;
     answered(
         &rt,
         heap,
@@ -37,7 +37,7 @@ fn jobs_are_answered(rt: HostRuntime) -> Result<(), Fail> {
         false,
         b"0 0 1 -32 0 0 32\n".as_slice(),
     )?;
-    let many = text_of(heap, chair(), "D 7\nP 0 0 0 0 0\n")?;
+    let many = text_of(heap, CHAIR, "D 7\nP 0 0 0 0 0\n")?;
     answered(
         &rt,
         heap,

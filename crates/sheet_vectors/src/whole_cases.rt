@@ -1,6 +1,5 @@
 // Whole jobs, laid and read: the sweeps are those that a model in another language adds up over its own pieces.
-use crate::books::{chair, penrose};
-use crate::node_cases::job_of;
+use crate::replanted::job_of;
 use calls::row::Row;
 use gaussian::Gaussian;
 use meters::sweeping::SweepMeter;
@@ -12,6 +11,7 @@ use std::alloc::Global;
 use std::process::Abort;
 use std::test::Fail;
 use tenfold::Tenfold;
+use vectors::books::{CHAIR, PENROSE};
 use whole_jobs::job::Stopped;
 use whole_jobs::measured::{Measured, lay_and_read};
 
@@ -60,7 +60,7 @@ fn whole_jobs_read_as_their_seeds(rt: HostRuntime) -> Result<(), Fail> {
     sweeps_over::<Gaussian>(
         &rt,
         rt.alloc(),
-        (chair(), "D 3\nP 0 0 0 0 0\nP 0 1 1 5 -3\n"),
+        (CHAIR, "D 3\nP 0 0 0 0 0\nP 0 1 1 5 -3\n"),
         128,
         &[0, 1536],
     )?;
@@ -68,7 +68,7 @@ fn whole_jobs_read_as_their_seeds(rt: HostRuntime) -> Result<(), Fail> {
         &rt,
         rt.alloc(),
         (
-            penrose(),
+            PENROSE,
             "D 4\nP 0 0 0 0 0 0 0\nP 1 3 0 1 0 0 0\nP 0 7 1 0 2 0 -1\nP 1 5 1 3 -1 0 2\n",
         ),
         178,
@@ -78,7 +78,7 @@ fn whole_jobs_read_as_their_seeds(rt: HostRuntime) -> Result<(), Fail> {
 
 #[test]
 fn a_short_list_is_filled_and_refused(rt: HostRuntime) -> Result<(), Fail> {
-    let (rows, read) = swept::<Gaussian>(rt.alloc(), chair(), "D 1\nP 0 0 0 0 0\n", 3)?;
+    let (rows, read) = swept::<Gaussian>(rt.alloc(), CHAIR, "D 1\nP 0 0 0 0 0\n", 3)?;
     assert!(rt; rows == 3);
     assert!(rt; read.err() == Some(Some(9)));
     Ok(())
@@ -87,7 +87,7 @@ fn a_short_list_is_filled_and_refused(rt: HostRuntime) -> Result<(), Fail> {
 // Over the other ring nothing is laid.
 #[test]
 fn the_wrong_ring_is_refused(rt: HostRuntime) -> Result<(), Fail> {
-    let (rows, read) = swept::<Tenfold>(rt.alloc(), chair(), "D 1\nP 0 0 0 0 0\n", 8)?;
+    let (rows, read) = swept::<Tenfold>(rt.alloc(), CHAIR, "D 1\nP 0 0 0 0 0\n", 8)?;
     assert!(rt; rows == 0);
     assert!(rt; read.err() == Some(Some(13)));
     Ok(())

@@ -1,6 +1,5 @@
 // Sheets: what they lay and print, and what they refuse.
-use crate::books::{chair, penrose};
-use crate::node_cases::{FAR_SQUARE, job_of, text_of};
+use crate::replanted::{job_of, text_of};
 use calls::row::Row;
 use cutting::list::cutting_list;
 use floors::fault::FloorFault;
@@ -18,6 +17,7 @@ use std::alloc::Global;
 use std::process::Abort;
 use std::test::Fail;
 use tenfold::Tenfold;
+use vectors::books::{CHAIR, FAR_SQUARE, PENROSE};
 use whole_jobs::laying::lay_all;
 
 // A job's depth, and of its cutting list the number of lines and the bytes' FNV-1a sum of 64 bits, as a model in another language has them.
@@ -91,13 +91,13 @@ fn listed<R: Ring>(
 
 #[test]
 fn whole_jobs_are_listed_as_computed(rt: HostRuntime) -> Result<(), Fail> {
-    listed::<Gaussian>(&rt, rt.alloc(), chair(), CHAIR_SEEDS, &CHAIR_LISTS)?;
-    listed::<Tenfold>(&rt, rt.alloc(), penrose(), PENROSE_SEEDS, &PENROSE_LISTS)
+    listed::<Gaussian>(&rt, rt.alloc(), CHAIR, CHAIR_SEEDS, &CHAIR_LISTS)?;
+    listed::<Tenfold>(&rt, rt.alloc(), PENROSE, PENROSE_SEEDS, &PENROSE_LISTS)
 }
 
 #[test]
 fn the_chair_is_cut_into_four(rt: HostRuntime) -> Result<(), Fail> {
-    let list = list_of::<Gaussian>(rt.alloc(), chair(), "D 1\n", "P 0 0 0 0 0\n")?.map_err(
+    let list = list_of::<Gaussian>(rt.alloc(), CHAIR, "D 1\n", "P 0 0 0 0 0\n")?.map_err(
         |_| Fail::new("refused"),
     )?;
     assert!(rt; list.as_slice() == b"0 0 0 0 0\n0 0 0 1 1\n0 1 0 4 0\n0 3 0 0 4\n".as_slice());
@@ -106,11 +106,11 @@ fn the_chair_is_cut_into_four(rt: HostRuntime) -> Result<(), Fail> {
 
 #[test]
 fn one_chair_fills_all_places_at_depth_six(rt: HostRuntime) -> Result<(), Fail> {
-    let list = list_of::<Gaussian>(rt.alloc(), chair(), "D 6\n", "P 0 0 0 0 0\n")?.map_err(
+    let list = list_of::<Gaussian>(rt.alloc(), CHAIR, "D 6\n", "P 0 0 0 0 0\n")?.map_err(
         |_| Fail::new("refused"),
     )?;
     assert!(rt; lines_of(list.as_slice()) == 4096);
-    let fault = list_of::<Gaussian>(rt.alloc(), chair(), "D 7\n", "P 0 0 0 0 0\n")?
+    let fault = list_of::<Gaussian>(rt.alloc(), CHAIR, "D 7\n", "P 0 0 0 0 0\n")?
         .err()
         .ok_or("laid")?;
     assert!(rt; fault.number() == Some(9) && fault.place() == 0);
@@ -177,7 +177,7 @@ fn refused_in_order(rt: &impl Abort, heap: Global, sheet: &mut Open<Placer>) -> 
 
 #[test]
 fn calls_are_refused_in_order(rt: HostRuntime) -> Result<(), Fail> {
-    let mut sheet = sheet_of(rt.alloc(), chair(), "D 1\nP 0 0 0 0 0\n")?;
+    let mut sheet = sheet_of(rt.alloc(), CHAIR, "D 1\nP 0 0 0 0 0\n")?;
     let done = refused_in_order(&rt, rt.alloc(), &mut sheet);
     let _ = sheet.into_placer();
     done
@@ -206,7 +206,7 @@ fn nodes_off_the_plane_are_not_laid(rt: HostRuntime) -> Result<(), Fail> {
 
 // ---- a finished sheet's list, altered behind its back
 fn finished(heap: Global, list: &mut Rows) -> Result<Finished<Placer>, Fail> {
-    let mut sheet = sheet_of(heap, chair(), "D 1\nP 0 0 0 0 0\n")?;
+    let mut sheet = sheet_of(heap, CHAIR, "D 1\nP 0 0 0 0 0\n")?;
     let _ = lay_all(&mut sheet, list.as_mut_slice());
     match sheet.finish() {
         Ok(finished) => Ok(finished),
@@ -289,7 +289,7 @@ fn altered_lists_are_not_printed(rt: HostRuntime) -> Result<(), Fail> {
 
 #[test]
 fn a_pending_sheet_is_not_finished(rt: HostRuntime) -> Result<(), Fail> {
-    let sheet = sheet_of(rt.alloc(), chair(), "D 1\nP 0 0 0 0 0\n")?;
+    let sheet = sheet_of(rt.alloc(), CHAIR, "D 1\nP 0 0 0 0 0\n")?;
     match sheet.finish() {
         Ok(finished) => {
             let _ = finished.into_placer();
