@@ -17,8 +17,8 @@ use Rattle.runs.specs.Runs.{State, Call, begun, run}
 use Rattle.runs.specs.Law.{BoundaryConserved, ReadingConserved, ReadsAsTheSeed, ResumesTheLawful, RefusesTheOthers, TellsWhereItIsBad, NodesKept}
 
 module _ (E : Cyclotomic) (N : JobNumbers) where
-  -- what no meter is asked for
-  pub record Closed (room : ℕ) (s : State E) : Type 0 where
+  -- the law as far as no meter is asked: (a) and (c)
+  pub record Unmetered (room : ℕ) (s : State E) : Type 0 where
     -- the nodes laid, set aside and pending are the job's, and the list's laid pieces lie where the laid nodes lie
     pub nodes : NodesKept E N s
     -- (a) at every edge, laid, set aside and pending count together what the inflated seed counts
@@ -30,7 +30,7 @@ module _ (E : Cyclotomic) (N : JobNumbers) where
 
   -- the law, whole
   pub record Conservation (G : AbelianGroup) (reads : Edge E → G.Val) (room : ℕ) (s : State E) : Type 0 where
-    pub closed : Closed room s
+    pub unmetered : Unmetered room s
     -- (b) laid, set aside and pending read together as the inflated seed; with nothing left and nothing set aside the laid pieces do alone
     pub reading : ReadingConserved E N G reads s
     pub finished_reading : ReadsAsTheSeed E N G reads s
@@ -39,8 +39,8 @@ module _ (E : Cyclotomic) (N : JobNumbers) where
   abbrev pub Conserves : (G : AbelianGroup) → (Edge E → G.Val) → ℕ → List Call → Type 0
   Conserves G reads room calls = (before after : List Call) → calls ≡ before ++ after → Conservation G reads room (run E N room before (begun E N))
 
-  abbrev pub StaysClosed : ℕ → List Call → Type 0
-  StaysClosed room calls = (before after : List Call) → calls ≡ before ++ after → Closed room (run E N room before (begun E N))
+  abbrev pub ConservesUnmetered : ℕ → List Call → Type 0
+  ConservesUnmetered room calls = (before after : List Call) → calls ≡ before ++ after → Unmetered room (run E N room before (begun E N))
 
   -- what the reading of a finished sheet answers where it can be read: the reading of its laid pieces; and where nothing was set aside,
   -- that of the inflated seed

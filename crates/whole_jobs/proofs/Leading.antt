@@ -15,7 +15,7 @@ use Rattle.runs.specs.Runs as runs
 use Rattle.runs.specs.Runs.{State, begun, done, settled, noted_if, retraced, run}
 use Rattle.runs.proofs.Noting.{retraced_sheet}
 use Rattle.runs.proofs.Traced.{begun_sheet, runs_moves}
-use Rattle.conservation.proofs.Conserved.{stays_closed}
+use Rattle.conservation.proofs.Conserved.{conserves_unmetered}
 use Rattle.conservation.proofs.Stepping.{by_table}
 use Rattle.sheet.specs.Answers.{Does, Answers, Lays}
 use Rattle.sheet.specs.declared.fault.SheetFault.{SheetFault}
@@ -84,5 +84,5 @@ module _ (E : Cyclotomic) (L : CyclotomicLaws E) (N : JobNumbers) (B : Branching
         accepted = e;
         leads = ap (λ (z : State E). z.sheet) same ∙ retraced_sheet E N (usable room) ms (start E N) t (moving.is_replayed E N (usable room) ms (start E N) t e) (begun E N) (begun_sheet E N);
         none_aside = ap (λ (z : State E). z.aside) same ∙ keeps_aside E N (usable room) ms f (begun E N) ∙ none_at_first;
-        closed = stays_closed E L N B K.judged.accepted room (map runs.moving ms);
+        conserves = conserves_unmetered E L N B K.judged.accepted room (map runs.moving ms);
       }

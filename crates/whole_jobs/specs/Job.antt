@@ -14,21 +14,21 @@ use Rattle.calls.specs.Moves.{Move, replayed}
 use Rattle.calls.specs.declared.row.Row.{Row}
 use Rattle.meters.specs.Pieces.{Readable}
 use Rattle.runs.specs.Runs.{moving, begun, run}
-use Rattle.conservation.specs.Law.{StaysClosed}
+use Rattle.conservation.specs.Law.{ConservesUnmetered}
 use Rattle.sheet.specs.Ends.{NotStarted}
 use Rattle.sheet.specs.declared.fault.SheetFault.{SheetFault}
 use Rattle.whole_jobs.specs.Whole.{Grown, Forward, CannotBeLaid}
 
 module _ (E : Cyclotomic) (N : JobNumbers) where
-  -- A run of descents and layings, each of them accepted, leads to a sheet with nothing set aside; and the law of conservation holds at
-  -- its start and after each of its calls.
+  -- A run of descents and layings, each of them accepted, leads to a sheet with nothing set aside; and the law of conservation, as far as
+  -- no meter is asked, holds at its start and after each of its calls.
   pub record LedByARun (room : ℕ) (t : Sheet E) : Type 0 where
     pub moves : List Move
     pub forward : AllByRecursion Forward moves
     pub accepted : replayed E N (usable room) moves (start E N) ≡ Some t
     pub leads : (run E N room (map moving moves) (begun E N)).sheet ≡ t
     pub none_aside : (run E N room (map moving moves) (begun E N)).aside ≡ []
-    pub closed : StaysClosed E N room (map moving moves)
+    pub conserves : ConservesUnmetered E N room (map moving moves)
 
 module _ (E : Cyclotomic) (N : JobNumbers) {C : Type 0} (listed : C → List ℤ) where
   -- a list whose first rows are the pieces at some nodes, one after the other, all of them on the plane; it can be read, and behind these
