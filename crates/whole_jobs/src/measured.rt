@@ -1,11 +1,12 @@
 // Laying a whole job, and reading it with a meter.
-ghost use Rattle.std.specs.Prelude.{◌≡◌, length, List, MatchResult};
+ghost use Rattle.std.specs.Prelude.{◌≡◌, ℕ, length, List, MatchResult};
 ghost use Rattle.chains.specs.Books.{book_of};
 ghost use Rattle.chains.specs.Counts.{reading};
 ghost use Rattle.chains.specs.Frontiers.{seed_outlines};
 ghost use Rattle.runs.specs.Runs.{Call};
 ghost use Rattle.conservation.specs.Law.{Conserves};
 ghost use Rattle.whole_jobs.specs.Job.{LaysWhole, LaysNotWhole};
+ghost use Rattle.whole_jobs.specs.Whole.{Grown};
 
 use crate::job::{Stopped, lay_job};
 use calls::row::Row;
@@ -33,6 +34,9 @@ pub fn lay_and_read<P: Placer, M: Meter<P::R>>(
     ensures lays { P.Placer.sound placer → let N = P.Placer.plan placer in MatchResult result
         (λ m. LaysWhole P.R.Ring.exact N P.R.Ring.listed m.sheet.count list.old list.new)
         (λ s. LaysNotWhole P.R.Ring.exact N P.R.Ring.listed P.R.Ring.value s.fault list.old list.new) }
+    ensures listed { MatchResult result (λ m. Grown 0 m.sheet.count list.old list.new) (λ _. (n : ℕ) × Grown 0 n list.old list.new) }
+    ensures kept { MatchResult result (λ m. P.Placer.plan m.sheet.placer ≡ P.Placer.plan placer) (λ s. P.Placer.plan s.placer ≡ P.Placer.plan placer) }
+    ensures sound { P.Placer.sound placer → MatchResult result (λ m. P.Placer.sound m.sheet.placer) (λ s. P.Placer.sound s.placer) }
     ensures law { P.Placer.sound placer → let E = P.R.Ring.exact in let N = P.Placer.plan placer in MatchResult result
         (λ _. (calls : List Call) → Conserves E N M.Meter.group (M.Meter.reads meter.now E P.R.Ring.value (book_of E N)) (length list.old) calls)
         (λ _. Unit {0}) }
