@@ -1,8 +1,9 @@
 -- A list of parts read backwards, and what makes two parts mirror each other.
-use Rattle.std.proofs.Common.{◌≡◌, ℕ, Bool, true, false, not, cond, ◌&&◌, ◌==◌, List, [], ◌∷◌, ◌++◌, map, Option, Decides, sym, refl, ap, ◌∙◌, arith}
+use Rattle.std.proofs.Common.{◌≡◌, ℕ, suc, ◌-◌, ◌<◌, ◌≤◌, Bool, true, false, not, cond, ◌&&◌, ◌==◌, List, [], ◌∷◌, ◌++◌, map, length, get_or, Option, Decides, sym, refl, ap, ◌∙◌, subst, inl, inr, arith}
 use mathlib.Core.Bool.{beq}
 use mathlib.Core.List.{reverse, map-append}
-use Rattle.std.proofs.lemmas.List.{reverse-append}
+use Rattle.std.proofs.lemmas.Bool.{cases_lt}
+use Rattle.std.proofs.lemmas.List.{length-append, get_or_append_left, get_or-append_right, reverse-append}
 use Rattle.std.specs.Iterator.{AlwaysYields}
 use Rattle.std.proofs.lemmas.Iterator.{YieldsList}
 use Rattle.exact.specs.Cyclotomic.{Cyclotomic}
@@ -23,6 +24,30 @@ module _ {T A B C : Type 0} (steps : T → Option A → T → Type 0) (v : A →
   seen {s} ys e = record { runs = seen_at ys s e.runs }
 
 module _ (E : Cyclotomic) (B : books.Book E) where
+  pub back_length : (ps : List numbers.Part) → length (backwards E B ps) ≡ length ps
+  unfolding backwards
+  back_length [] = refl
+  back_length (p ∷ ps) = let k = back_length ps in simp length-append (omega arith)
+
+  pub back_at : (ps : List numbers.Part) (k : ℕ) (d : numbers.Part) → k < length ps → get_or (backwards E B ps) k d ≡ turned_part E B (get_or ps (length ps - 1 - k) d)
+  unfolding backwards
+  back_at [] k d h = absurd (omega arith)
+  back_at (p ∷ ps) k d h = elim (cases_lt k (length ps)) [
+    | inl l ↦ get_or_append_left (backwards E B ps) (turned_part E B p ∷ []) d k (subst (◌<◌ k) (sym (back_length ps)) l) ∙ back_at ps k d l
+        ∙ ap (turned_part E B) (ap (λ n. get_or (p ∷ ps) n d) (ahead (length ps) k l))
+    | inr l ↦ get_or-append_right (backwards E B ps) (turned_part E B p ∷ []) (length ps) k d (back_length ps) l
+        ∙ ap (λ n. get_or (turned_part E B p ∷ []) n d) (none (length ps) k l h) ∙ ap (turned_part E B) (ap (λ n. get_or (p ∷ ps) n d) (first (length ps) k l h))
+  ]
+    where
+      ahead : (n k : ℕ) → k < n → suc (n - 1 - k) ≡ suc n - 1 - k
+      ahead n k h = omega arith
+
+      none : (n k : ℕ) → n ≤ k → k < suc n → k - n ≡ 0
+      none n k h l = omega arith
+
+      first : (n k : ℕ) → n ≤ k → k < suc n → 0 ≡ suc n - 1 - k
+      first n k h l = omega arith
+
   abbrev pub turned_row : Part → numbers.Part
   turned_row x = turned_part E B (part_of x)
 

@@ -1,7 +1,8 @@
 -- Points passed one after another, and the first that is not.
-use Rattle.std.proofs.Common.{◌≡◌, ℕ, ◌<◌, List, [], ◌∷◌, ◌++◌, map, length, IsErrAnd, Ok, Err, Result, sym, refl, ap, ◌∙◌, subst, append_assoc, arith, MatchResult}
+use Rattle.std.proofs.Common.{◌≡◌, ℕ, ◌+◌, ◌<◌, List, [], ◌∷◌, ◌++◌, map, length, drop, IsErrAnd, Ok, Err, Result, sym, refl, ap, ◌∙◌, subst, append_assoc, arith, MatchResult}
 use Rattle.std.specs.List.{range_with_len, AllByRecursion}
-use Rattle.std.proofs.lemmas.List.FromFn.{length-map-range_with_len, get_or-map-range_with_len}
+use Rattle.std.proofs.lemmas.List.{take-append-drop, drop_more}
+use Rattle.std.proofs.lemmas.List.FromFn.{length-map-range_with_len, get_or-map-range_with_len, take-map-range_with_len}
 use Rattle.std.proofs.ByRecursion.{All-get_or, All-from_get_or}
 use Rattle.exact.specs.Cyclotomic.{Cyclotomic}
 use Rattle.chains.specs.Books.{Book}
@@ -25,6 +26,16 @@ module _ {X : Type 0} (P : X → Type 0) (f : ℕ → X) where
 
   pub each_below : (n k : ℕ) → k < n → AllByRecursion P (map f (range_with_len 0 n)) → P (f k)
   each_below n k h a = subst P (get_or-map-range_with_len f 0 n k k (f 0) h (omega arith)) (All-get_or P (map f (range_with_len 0 n)) k (f 0) (subst (λ m. k < m) (sym (length-map-range_with_len f 0 n)) h) a)
+
+  -- number k of them, and what stands around it
+  pub split_at : (n k : ℕ) → k < n → (after : List X) × (map f (range_with_len 0 n) ≡ map f (range_with_len 0 k) ++ f k ∷ after)
+  split_at n k h =
+      let l = map f (range_with_len 0 n) in
+      let m = subst (λ m. k < m) (sym (length-map-range_with_len f 0 n)) h in (
+        drop (k + 1) l,
+        sym (take-append-drop k l) ∙ ap (λ t. t ++ drop k l) (take-map-range_with_len f 0 n k (omega arith))
+            ∙ ap (λ t. map f (range_with_len 0 k) ++ t) (drop_more l k (f 0) m ∙ ap (λ x. x ∷ drop (k + 1) l) (get_or-map-range_with_len f 0 n k k (f 0) h (omega arith))),
+      )
 
 -- what holds of all holds of one in the middle
 middle : {X : Type 0} (P : X → Type 0) (xs before : List X) (x : X) (after : List X) → xs ≡ before ++ x ∷ after → AllByRecursion P xs → P x

@@ -9,6 +9,9 @@ use Rattle.chains.specs.Accepted.{lengths, backwards, SubdivisionFits}
 use Rattle.book.specs.Points.{KeptLengths, KeptSubdivision, Tested, Tells}
 
 module _ (E : Cyclotomic) (B : Book E) (e : ℕ) (parts : List Part) (long : E.Elem) (p : parts ≡ (label_at B e).subdivision) (l : long ≡ (label_at B e).length) where
+  pub sums_at : KeptSubdivision E B e → KeptLengths E B parts
+  sums_at k = subst (KeptLengths E B) (sym p) k.sums
+
   pub stretched_at : KeptSubdivision E B e → OnPlane E (E.mul B.factor long)
   stretched_at k = subst (λ z. OnPlane E (E.mul B.factor z)) (sym l) k.stretched
 

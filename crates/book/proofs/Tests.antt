@@ -53,6 +53,10 @@ pub one_decided : (h x : ℤ) → SFits w8 h → h ≡ x → Decides (eqb (of_z 
 one_decided h x f e = (λ t. sym e ∙ sym (to_z-of_z w8 h f) ∙ ap (to_z w8) (eqb-true _ _ t), λ t. eq-eqb _ _ (ap (of_z w8) (e ∙ t)))
 
 -- what a test's answer says
+pub yes : {H K : Type 0} (b : Bool) → b ≡ true → Tested (Ok b) H K → K × H
+yes true e t = (t.is.1, t.is.0)
+yes false e t = absurd (false≢true e)
+
 pub no : {H K : Type 0} (b : Bool) → b ≡ false → Tested (Ok b) H K → H → ⊥
 no true e t = absurd (true≢false e)
 no false e t = t.is

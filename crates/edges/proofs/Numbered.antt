@@ -1,5 +1,5 @@
 -- Labels and tiles of a book by their numbers.
-use Rattle.std.proofs.Common.{◌≡◌, ℕ, ◌<◌, ◌≤◌, false, List, [], map, length, get_or, vec_items, vec_len, Some, None, Bor, sym, ap, ◌∙◌}
+use Rattle.std.proofs.Common.{◌≡◌, ℕ, ◌<◌, ◌≤◌, false, List, [], map, length, get_or, vec_items, vec_len, Some, None, Bor, sym, refl, ap, ◌∙◌}
 use Rattle.std.proofs.lemmas.List.{get_or-map, get_or_past, length-map}
 use Rattle.std.specs.Slice.{IsItemAt}
 use Rattle.exact.specs.Cyclotomic.{Cyclotomic}
@@ -49,3 +49,7 @@ module _ {S : Type 0} (E : Cyclotomic) (v : S → E.Elem) (b : Book S) where
   pub tiles_many : length (book_view E v b).tiles ≡ vec_len b.tiles
   unfolding book_view
   tiles_many = length-map (vec_items b.tiles) (tile_view E v) ∙ sym b.tiles.ok.0
+
+  pub factor_is : (book_view E v b).factor ≡ v b.factor
+  unfolding book_view
+  factor_is = refl

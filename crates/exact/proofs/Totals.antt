@@ -1,5 +1,5 @@
 -- Numbers modulo 2^64, and rows of them, form commutative groups.
-use Rattle.std.proofs.Common.{◌≡◌, ℕ, zero, suc, ◌≤◌, List, [], ◌∷◌, length, ℤ, pos, ◌+ℤ◌, ◌-ℤ◌, neg_ℤ, slice_index_or, sym, ap, ◌∙◌, w64}
+use Rattle.std.proofs.Common.{◌≡◌, ℕ, zero, suc, ◌≤◌, List, [], ◌∷◌, length, ℤ, pos, ◌+ℤ◌, ◌-ℤ◌, neg_ℤ, slice_index_or, sym, refl, ap, ◌∙◌, w64}
 use mathlib.Core.HLevel.{is_prop→PathP}
 use lib.IntN.{ℤ_set, +ℤ_assoc, +ℤ_comm, +ℤ_idr, +ℤ_idl, +ℤ_invr}
 use Rattle.std.specs.Int.{int_wrap}
@@ -50,6 +50,10 @@ totals_laws = record {
 }
 
 -- ---- totals of listed coefficients, coefficient by coefficient
+abbrev pub Zeros : List ℤ → Type 0
+Zeros [] = Unit {0}
+Zeros (a ∷ l) = (residue a ≡ residue (pos 0)) × Zeros l
+
 abbrev pub Sums : List ℤ → List ℤ → List ℤ → Type 0
 Sums [] [] [] = Unit {0}
 Sums [] [] (c ∷ n) = ⊥
@@ -57,6 +61,17 @@ Sums [] (b ∷ m) n = ⊥
 Sums (a ∷ l) [] n = ⊥
 Sums (a ∷ l) (b ∷ m) [] = ⊥
 Sums (a ∷ l) (b ∷ m) (c ∷ n) = (residue c ≡ plus (residue a) (residue b)) × Sums l m n
+
+abbrev pub Opposites : List ℤ → List ℤ → Type 0
+Opposites [] [] = Unit {0}
+Opposites [] (b ∷ m) = ⊥
+Opposites (a ∷ l) [] = ⊥
+Opposites (a ∷ l) (b ∷ m) = (residue b ≡ less (residue a)) × Opposites l m
+
+zero_at : (l : List ℤ) → Zeros l → (k : ℕ) → row_total l k ≡ residue (pos 0)
+zero_at [] h k = refl
+zero_at (a ∷ l) h zero = h.0
+zero_at (a ∷ l) h (suc k) = zero_at l h.1 k
 
 sum_at : (l m n : List ℤ) → Sums l m n → (k : ℕ) → row_total n k ≡ plus (row_total l k) (row_total m k)
 sum_at [] [] [] h k = residue_add (pos 0) (pos 0)
@@ -67,8 +82,21 @@ sum_at (a ∷ l) (b ∷ m) [] h k = absurd h
 sum_at (a ∷ l) (b ∷ m) (c ∷ n) h zero = h.0
 sum_at (a ∷ l) (b ∷ m) (c ∷ n) h (suc k) = sum_at l m n h.1 k
 
+opposite_at : (l m : List ℤ) → Opposites l m → (k : ℕ) → row_total m k ≡ less (row_total l k)
+opposite_at [] [] h k = residue_neg (pos 0)
+opposite_at [] (b ∷ m) h k = absurd h
+opposite_at (a ∷ l) [] h k = absurd h
+opposite_at (a ∷ l) (b ∷ m) h zero = h.0
+opposite_at (a ∷ l) (b ∷ m) h (suc k) = opposite_at l m h.1 k
+
+pub row_zero : (l : List ℤ) → Zeros l → row_total l ≡ totals.zero
+row_zero l h = λ i k. zero_at l h k i
+
 pub row_sum : (l m n : List ℤ) → Sums l m n → row_total n ≡ totals.sum (row_total l) (row_total m)
 row_sum l m n h = λ i k. sum_at l m n h k i
+
+pub row_opposite : (l m : List ℤ) → Opposites l m → row_total m ≡ totals.opposite (row_total l)
+row_opposite l m h = λ i k. opposite_at l m h k i
 
 -- ---- the same of rows that the machine worked out, number by number
 pub total_zero : (l : List ℤ) → ((k : ℕ) → slice_index_or l k (pos 0) ≡ pos 0) → row_total l ≡ totals.zero

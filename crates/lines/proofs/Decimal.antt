@@ -1,7 +1,10 @@
 -- Digits, numbers and their one spelling. Assumes nothing.
-use Rattle.std.proofs.Common.{◌≡◌, ℕ, IsUtf8, Result, Ok, Err, None, MatchOption, MatchResult, suc, ◌^◌, ◌<◌, ◌≤◌, List, [], ◌∷◌, ◌++◌, length, get_or, take, drop, ℤ, pos, negsuc, decimal, sym, refl, ap, ◌∙◌, subst, ⊎_elim, add-zero, arith}
-use Rattle.std.specs.Str.Parse.{digits_value}
+use Rattle.std.proofs.Common.{◌≡◌, ℕ, IsUtf8, Result, Ok, Err, None, MatchOption, MatchResult, suc, ◌+◌, ◌-◌, ◌*◌, ◌%◌, ◌^◌, ◌<◌, ◌≤◌, List, [], ◌∷◌, ◌++◌, length, get_or, take, drop, ℤ, pos, negsuc, decimal, sym, refl, ap, ◌∙◌, subst, ⊎_elim, add-zero, pow-suc, add-one, arith}
+use native.Mathlib.Nat.{pow-le-pow_right}
+use Rattle.std.specs.Str.Parse.{digits_value, digits_value_after}
 use Rattle.std.specs.Int.{IsInRange}
+use Rattle.std.specs.Char.{digit_value}
+use Rattle.std.specs.List.{fold}
 use Rattle.std.specs.Result.{result_ok, OkIff}
 use Rattle.std.proofs.lemmas.Str.{IsUtf8-from_ascii}
 use Rattle.std.proofs.lemmas.Fmt.{decimal-digits_value, digits_decimal, decimal_nonempty, length-decimal-le, first_decimal, decimal_digit, decimal_injective}
@@ -9,6 +12,7 @@ use Rattle.std.proofs.lemmas.List.Prefix.{front_reads, front_rest, front_fits}
 use Rattle.std.proofs.lemmas.List.{get_or_past, drop_more, drop_all, get_or-drop, get_or-take, take-append-drop, length-take-le, length-append, take_at}
 use Rattle.std.proofs.lemmas.Str.Parse.{IsNumeralModel, numerals_by_value, tells_by_index, digits_value_short}
 use Rattle.std.proofs.lemmas.Bool.{cases_lt, cases_order, cases_eq}
+use Rattle.std.proofs.lemmas.Bool.Decides.{nat_tests}
 use Rattle.lines.specs.Spelling.{Few, Ends, Word, Plain, DigitsTo}
 
 abbrev pub AllDigits : List ℕ → Type 0
@@ -31,6 +35,33 @@ few_small ds all few = omega (arith, digits_value_short own ds 7 all few)
 pub value_read : {E : Type 0} (ds : List ℕ) (r : Result ℕ E) → OkIff r ((0 < length ds) × (digits_value 10 ds < 2 ^ 32)) (digits_value 10 ds) → digits_value 10 ds < 2 ^ 32 → MatchOption (result_ok r) (length ds ≡ 0) (λ n. (0 < length ds) × (n ≡ digits_value 10 ds))
 value_read ds (Ok n) h small = (h.0.0, h.1)
 value_read ds (Err e) h small = ⊎_elim (λ n. n) (λ n. absurd (h (omega arith, small))) (cases_eq (length ds) 0)
+
+pub digit_is : (c : ℕ) → IsInRange 48 57 c → digit_value c ≡ c - 48
+digit_is c h = grind (arith, nat_tests)
+
+pub bound_step : (v d i : ℕ) → v < 10 ^ i → d < 10 → v * 10 + d < 10 ^ (i + 1)
+bound_step v d i l m = rw (add-one, pow-suc) (omega arith)
+
+pub below_power : (v i : ℕ) → v < 10 ^ i → i ≤ 6 → v < 1_000_000
+below_power v i l h = let p : 10 ^ i ≤ 10 ^ 6 = pow-le-pow_right (omega arith) h in omega arith
+
+-- one digit more, as the machine works it out
+abbrev pub digit_more : ℕ → ℕ → ℕ
+digit_more n b = (n * 10 % 2 ^ 32 + (b + (2 ^ 8 - 48)) % 2 ^ 8) % 2 ^ 32
+
+more_is : (n b : ℕ) → n < 1_000_000 → IsInRange 48 57 b → digit_more n b ≡ n * 10 + digit_value b
+more_is n b l d = rw (digit_is b d) (omega arith)
+
+folded_after : (ds : List ℕ) (n i : ℕ) → AllDigits ds → n < 10 ^ i → i + length ds ≤ 7 → fold digit_more n ds ≡ digits_value_after 10 n ds
+folded_after [] n i all low few = refl
+folded_after (b ∷ ds) n i all low few =
+    let d : IsInRange 48 57 b = all 0 (omega arith) in
+    let k : digit_value b < 10 = omega (arith, digit_is b d) in
+    ap (λ m. fold digit_more m ds) (more_is n b (below_power n i low (omega arith)) d)
+    ∙ folded_after ds (n * 10 + digit_value b) (i + 1) (λ j l. all (suc j) (omega arith)) (bound_step n (digit_value b) i low k) (omega arith)
+
+pub value_folded : (ds : List ℕ) → AllDigits ds → length ds ≤ 7 → fold digit_more 0 ds ≡ digits_value 10 ds
+value_folded ds all few = folded_after ds 0 0 all (omega arith) (omega (arith, few))
 
 pub front_first : (s ds : List ℕ) (n : ℕ) → ds ≡ take n s → 0 < n → get_or ds 0 0 ≡ get_or s 0 0
 front_first s ds n e l = ap (λ t. get_or t 0 0) e ∙ get_or-take n s 0 0 l

@@ -28,7 +28,17 @@ fn digits_value(digits: &[u8]) -> Option<u32>
     requires { (length digits.now ≤ 7) × DigitsTo digits.now (length digits.now) }
     ensures { MatchOption result (length digits.now ≡ 0) (λ n. (0 < length digits.now) × (n ≡ digits_value 10 digits.now)) }
 {
-    str::from_utf8(digits).ok()?.parse::<u32>().ok()
+    if digits.is_empty() {
+        return None;
+    }
+    // A fold and no `parse`, which wants a `str`: to test the digits twice more cost a third of the reader's time.
+    Some(
+        digits.iter().fold(0u32, |value, b| {
+            value
+                .wrapping_mul(10)
+                .wrapping_add(u32::from(b.wrapping_sub(b'0')))
+        }),
+    )
 }
 
 // Whether a number may end before s.

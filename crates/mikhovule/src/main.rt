@@ -3,10 +3,9 @@
 #![tactic(auto)]
 
 use replies::printing::print_reply;
-use std::io;
 use std::process::ExitCode;
 
-fn main(rt: HostRuntime) -> io::Result<ExitCode> {
+fn main(rt: HostRuntime) -> anyhow::Result<ExitCode> {
     let mut sink = rt.stdout();
     if print_reply(rt.alloc(), rt.stdin(), &mut sink)? {
         return Ok(ExitCode::FAILURE);

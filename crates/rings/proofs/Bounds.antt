@@ -4,6 +4,7 @@ use lib.Signed.{lt_z}
 use borrow.Author.Differences.{ints, fits_out, same_out, Apart-out, lt_T, le_T, lt_not, le_not, lt-true, lt-false, le-true, le-false, true-lt, false-lt, true-le, false-le, not_negative_out, lt_out, le_out, fits_in, same_in, lt_in, le_in, below_in, at_most_in, not_negative_in, true_is_lt, false_is_lt, true_is_le, false_is_le, sum_is_lem, neg_is, abs_is, mag_is, back_is, small_is, read_fits, bits_is}
 use Rattle.std.proofs.lemmas.Int.{to_z-of_z}
 use Rattle.exact.specs.Cyclotomic.{Cyclotomic}
+use Rattle.exact.proofs.Surds.{square_above}
 use Rattle.exact.proofs.Sizes.{product_between, sweep_size, within_wider}
 use Rattle.exact.proofs.Coefficients.{quad_same}
 use Rattle.exact.proofs.TenfoldLaws.{by_crosses}
@@ -31,16 +32,25 @@ back z = to_z w64 (of_z w64 z)
 near_fits : (a : ℤ) → Between plane_bound a → SFits w64 a
 near_fits a h = omega (arith, ints)
 
+pub some_fits : (a : ℤ) → Between (products 8) a → SFits w64 a
+some_fits a h = omega (arith, ints)
+
 -- ---- products
 -- what `times` answers, by its arguments' values
-times_is : (a b : ℤ) {t : ℤ} → (Between plane_bound (back a) → Between plane_bound (back b) → t ≡ back a *ℤ back b) → Between plane_bound a → Between plane_bound b → t ≡ a *ℤ b
+pub times_is : (a b : ℤ) {t : ℤ} → (Between plane_bound (back a) → Between plane_bound (back b) → t ≡ back a *ℤ back b) → Between plane_bound a → Between plane_bound b → t ≡ a *ℤ b
 times_is a b e p q =
     let ea = to_z-of_z w64 a (near_fits a p) in
     let eb = to_z-of_z w64 b (near_fits b q) in
     e (subst (Between plane_bound) (sym ea) p) (subst (Between plane_bound) (sym eb) q) ∙ ap₂ ◌*ℤ◌ ea eb
 
-times_small : (a b : ℤ) {t : ℤ} → (Between plane_bound (back a) → Between plane_bound (back b) → Between (products 1) t) → Between plane_bound a → Between plane_bound b → Between (products 1) t
+pub times_small : (a b : ℤ) {t : ℤ} → (Between plane_bound (back a) → Between plane_bound (back b) → Between (products 1) t) → Between plane_bound a → Between plane_bound b → Between (products 1) t
 times_small a b e p q = e (subst (Between plane_bound) (sym (to_z-of_z w64 a (near_fits a p))) p) (subst (Between plane_bound) (sym (to_z-of_z w64 b (near_fits b q))) q)
+
+back_product : (a b : ℤ) → Between plane_bound a → Between plane_bound b → back a *ℤ back b ≡ a *ℤ b
+back_product a b p q = ap₂ ◌*ℤ◌ (to_z-of_z w64 a (near_fits a p)) (to_z-of_z w64 b (near_fits b q))
+
+pub cross_is : (a b c d : ℤ) {t : ℤ} → t ≡ back a *ℤ back d +ℤ neg_ℤ (back b *ℤ back c) → Between plane_bound a → Between plane_bound b → Between plane_bound c → Between plane_bound d → t ≡ a *ℤ d +ℤ neg_ℤ (b *ℤ c)
+cross_is a b c d e p q r s = e ∙ ap₂ (λ x y. x +ℤ neg_ℤ y) (back_product a d p s) (back_product b c q r)
 
 -- the same of coefficients of two positions: the product, and how large it is
 pub product_at : (l m : List ℤ) → Within plane_bound l → Within plane_bound m → (i j : ℕ) (t : ℤ) →
@@ -88,6 +98,12 @@ square_is u f = ap (λ z. z *ℤ z) (to_z-of_z w64 u f)
 pub square_high : (u : ℤ) (k : ℕ) → Between k u → (u *ℤ u) ≤ℤ pos (k * k)
 square_high u k h = (product_between k k u u h h).1
 
+pub square_fits : (u : ℤ) → Between (4 * height_bound) u → SFits w64 (u *ℤ u)
+square_fits u h = by (u *ℤ u) (square_above u) (square_high u (4 * height_bound) h)
+  where
+    by : (z : ℤ) → pos 0 ≤ℤ z → z ≤ℤ pos (4 * height_bound * (4 * height_bound)) → SFits w64 z
+    by z p q = omega (arith, ints)
+
 -- the test of `surd`, over the numbers themselves
 pub tested : (u b : ℤ) {x y : ℤ} {t : Bool} → SFits w64 u → SFits w64 b → x ≡ back b *ℤ back b → y ≡ back u *ℤ back u → pos 0 ≤ℤ x → x ≤ℤ pos (4 * (height_bound * height_bound)) → SFits w64 y → lt_z (back (pos 5 *ℤ back x)) (back y) ≡ t → lt_z (pos 5 *ℤ (b *ℤ b)) (u *ℤ u) ≡ t
 tested u b {x} {y} f g ex ey l h k e =
@@ -97,6 +113,9 @@ tested u b {x} {y} f g ex ey l h k e =
   where
     scaled : (x : ℤ) → pos 0 ≤ℤ x → x ≤ℤ pos (4 * (height_bound * height_bound)) → SFits w64 (pos 5 *ℤ x)
     scaled x l h = omega (arith, ints)
+
+pub back_between : {s : ℕ} {z : ℤ} → SFits w64 z → Between s (back z) → Between s z
+back_between {s} {z} f h = subst (Between s) (to_z-of_z w64 z f) h
 
 pub between_back : {s : ℕ} {z : ℤ} → SFits w64 z → Between s z → Between s (back z)
 between_back {s} {z} f h = subst (Between s) (sym (to_z-of_z w64 z f)) h
